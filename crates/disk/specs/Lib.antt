@@ -1,0 +1,4 @@
+pub mod Addresses
+pub mod Labels
+pub mod Refusals
+pub mod Media
