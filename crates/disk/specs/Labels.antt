@@ -4,7 +4,7 @@ use mathlib.Core.List.{List, [], _∷_}
 use mathlib.Core.Bool.{Bool, true, false, not, _&&_}
 use Prim.Native.Nat.{ℕ, _+_, _-_, _*_, _/_, _%_, _^_, _<_}
 use lib.Dec.{eqb, leb}
-use lib.ListN.{getD}
+use lib.ListN.{length, getD}
 use Rattle.disk.specs.declared.label.FileId.{FileId}
 use Rattle.disk.specs.declared.label.Label.{Label}
 
@@ -64,6 +64,11 @@ label-from ws i = record {
 
 abbrev pub label-of : List ℕ → Label
 label-of ws = label-from ws 0
+
+-- A label and its eight words give each other back.
+pub record Label-words : Type 0 where
+  pub label-back : (l : Label) → label-of (words-of l) ≡ l
+  pub words-back : (ws : List ℕ) → length ws ≡ 8 → words-of (label-of ws) ≡ ws
 
 -- The label of a page that is free: five words of 0 and three of 65535.
 abbrev pub free-label : Label

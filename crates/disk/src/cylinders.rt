@@ -31,6 +31,6 @@ impl Cylinders {
     pub fn pages(self) -> u16
         ensures { λ r. ⌜ r ≡ 24 * self .count ⌝ }
     {
-        24 * self.count
+        24 * self.count()
     }
 }

@@ -3,7 +3,7 @@ ghost use mathlib.Core.Bool.{cond};
 ghost use mathlib.Core.Path.{_≡_};
 ghost use lib.Dec.{ltb};
 ghost use Rattle.std.specs.declared.option.Option.the-variants.{Some, None};
-ghost use Rattle.disk.specs.Labels.{directory-mark, random-mark, serial-number, numbered, unmarked, most-serials, Numbering, id-of, free-label, is-free, is-file, words-of, label-of};
+ghost use Rattle.disk.specs.Labels.{directory-mark, random-mark, serial-number, numbered, unmarked, most-serials, Numbering, id-of, free-label, is-free, is-file, words-of, label-of, Label-words};
 use crate::address::RealAddress;
 use crate::address::RealAddressDebug;
 use crate::address::RealAddressEq;
@@ -88,24 +88,23 @@ impl Label {
     }
 
     pub fn from_words(words: [u16; 8]) -> Label
-        ensures value { λ r. ⌜ r ≡ label-of words ⌝ }
-        ensures back { λ r. ⌜ words-of r ≡ words ⌝ }
+        ensures { λ r. ⌜ r ≡ label-of words ⌝ }
     {
+        let [next, previous, blank, characters, number, version, serial1, serial2] = words;
         Label {
-            next: RealAddress { word: words[0] },
-            previous: RealAddress { word: words[1] },
-            blank: words[2],
-            characters: words[3],
-            number: words[4],
-            version: words[5],
-            serial1: words[6],
-            serial2: words[7],
+            next: RealAddress { word: next },
+            previous: RealAddress { word: previous },
+            blank,
+            characters,
+            number,
+            version,
+            serial1,
+            serial2,
         }
     }
 
     pub fn to_words(self) -> [u16; 8]
-        ensures value { λ r. ⌜ r ≡ words-of self ⌝ }
-        ensures back { λ r. ⌜ label-of r ≡ self ⌝ }
+        ensures { λ r. ⌜ r ≡ words-of self ⌝ }
     {
         [
             self.next.word,
@@ -149,4 +148,10 @@ impl Label {
     {
         !self.is_free() && !self.id().is_random() && self.characters <= 512
     }
+}
+
+// A label and its eight words give each other back.
+pub fn label_words()
+    ensures { λ _. ⌜ Label-words ⌝ }
+{
 }

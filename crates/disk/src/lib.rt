@@ -30,6 +30,7 @@ pub use label::Label;
 pub use label::LabelDebug;
 pub use label::LabelEq;
 pub use label::LabelPartialEq;
+pub use label::label_words;
 pub use refusal::Place;
 pub use refusal::PlaceDebug;
 pub use refusal::PlaceEq;

@@ -127,7 +127,7 @@ pub impl fmt::Display for Refusal as RefusalDisplay {
     ghost shown = { λ x. Some (told x) };
 
     fn fmt<W: fmt::Write>(&self, f: &mut fmt::Formatter<W>) -> fmt::Result {
-        let number = self.reason.number();
+        let number = self.number();
         let place = self.place.name();
         let page = self.page.page;
         let meaning = self.reason.meaning();
