@@ -90,7 +90,16 @@ impl Label {
     pub fn from_words(words: [u16; 8]) -> Label
         ensures { λ r. ⌜ r ≡ label-of words ⌝ }
     {
-        let [next, previous, blank, characters, number, version, serial1, serial2] = words;
+        let [
+            next,
+            previous,
+            blank,
+            characters,
+            number,
+            version,
+            serial1,
+            serial2,
+        ] = words;
         Label {
             next: RealAddress { word: next },
             previous: RealAddress { word: previous },
@@ -153,5 +162,4 @@ impl Label {
 // A label and its eight words give each other back.
 pub fn label_words()
     ensures { λ _. ⌜ Label-words ⌝ }
-{
-}
+{}

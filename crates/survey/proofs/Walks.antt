@@ -28,6 +28,13 @@ pub steps : (f : ℕ → Option ℕ) (x : ℕ) (ys : List ℕ) → Links f x ys 
 steps f x [] l = tt
 steps f x (y ∷ ys) l = (l .0, steps f y ys (l .1))
 
+-- Behind each page of a walk to the end, the page that its step gives.
+pub links-next : (f : ℕ → Option ℕ) (z : ℕ) (ys : List ℕ) → Links f z ys → (x y : ℕ) → In x (z ∷ ys) → f x ≡ Some y → In y ys
+links-next f z [] l x y (inl e) h = let w : f z ≡ Some y = ap f (sym e) ∙ h in let n : _≡_ {A = ℕ} 0 1 = cc in absurd (omega arith)
+links-next f z [] l x y (inr i) h = absurd i
+links-next f z (v ∷ vs) l x y (inl e) h = let w : f z ≡ Some y = ap f (sym e) ∙ h in inl (cc (l .0, w))
+links-next f z (v ∷ vs) l x y (inr i) h = inr (links-next f v vs (l .1) x y i h)
+
 -- Membership as a test.
 pub in-is-in : (p : ℕ) (qs : List ℕ) → In p qs → is-in p qs ≡ true
 in-is-in p [] i = absurd i

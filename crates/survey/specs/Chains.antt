@@ -10,15 +10,20 @@ use Rattle.std.specs.Iters.{counting}
 use Rattle.std.specs.declared.option.Option.{Option}
 use Rattle.std.specs.declared.option.Option.the-variants.{Some, None}
 use Rattle.disk.specs.declared.label.Label.{Label}
-use Rattle.disk.specs.Labels.{is-file}
+use Rattle.disk.specs.declared.label.FileId.{FileId}
+use Rattle.disk.specs.Labels.{is-file, id-of}
 use Rattle.disk.specs.Media.{Page, label-at}
 
 -- Which page a word of a label names, if any.
 abbrev pub Naming : Type 0
 Naming = ℕ → Option ℕ
 
+-- One file id: all three words agree.
+abbrev pub same-file : FileId → FileId → Bool
+same-file f g = eqb (f .version) (g .version) && (eqb (f .serial1) (g .serial1) && eqb (f .serial2) (g .serial2))
+
 abbrev pub same-id : Label → Label → Bool
-same-id l m = eqb (l .version) (m .version) && (eqb (l .serial1) (m .serial1) && eqb (l .serial2) (m .serial2))
+same-id l m = same-file (id-of l) (id-of m)
 
 -- The label of a leader: a file label with page number 0 and 512 characters.
 abbrev pub leads : Option Label → Bool

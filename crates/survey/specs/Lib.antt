@@ -1,3 +1,4 @@
 pub mod Chains
 pub mod Verdicts
 pub mod Laws
+pub mod Steps

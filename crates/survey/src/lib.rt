@@ -1,6 +1,13 @@
 // Which page belongs to which file.
+mod call;
+mod count;
+mod pairs;
+mod scan;
 mod table;
+mod trace;
+mod walk;
 
+pub use call::survey;
 pub use table::Record;
 pub use table::RecordDebug;
 pub use table::RecordEq;

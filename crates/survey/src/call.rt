@@ -1,0 +1,38 @@
+ghost use mathlib.Core.Path.{_≡_};
+ghost use lib.ListN.{length};
+ghost use Rattle.disk.specs.Addresses.{page-named};
+ghost use Rattle.survey.specs.Verdicts.{survey-answer, survey-table};
+use crate::count::clear;
+use crate::count::total;
+use crate::pairs::first_pair;
+use crate::scan::scan;
+use crate::table::Record;
+use crate::table::Totals;
+use crate::walk::walk_all;
+use disk::PageAddress;
+use disk::Place;
+use disk::Reader;
+use disk::Reason;
+use disk::Refusal;
+
+// Tells of each page which file it belongs to, and counts the pages of each verdict. The first N
+// records of the table are filled, whatever stood there; with two leaders of one file id the
+// survey is refused, and these records are zero.
+pub fn survey<R: Reader>(reader: &mut R, table: &mut [Record]) -> Result<Totals, Refusal>
+    ensures answer { λ r. ⌜ r ≡ survey-answer (page-named (R·Reader .medium (now (reader .entry)) .cylinders)) (R·Reader .medium (now (reader .entry)) .pages) (length (now (table .entry))) ⌝ }
+    ensures table { λ _. ⌜ now (table .exit) ≡ survey-table (page-named (R·Reader .medium (now (reader .entry)) .cylinders)) (R·Reader .medium (now (reader .entry)) .pages) (now (table .entry)) ⌝ }
+    ensures same { λ _. ⌜ R·Reader .medium (now (reader .exit)) ≡ R·Reader .medium (now (reader .entry)) ⌝ }
+{
+    let n = reader.cylinders().pages();
+    if table.len() < n as usize {
+        return Err(Refusal::new(Reason::TooSmall, Place::Pack, PageAddress { page: 0 }));
+    }
+    let mut leaders = [0; 9744];
+    let count = scan(reader, table, &mut leaders);
+    if let Some((one, two)) = first_pair(table, &leaders, count) {
+        clear(table, n);
+        return Err(Refusal::of_two(Reason::Rivals, Place::Pack, one, two));
+    }
+    walk_all(reader, table, &leaders, count);
+    Ok(total(table, n))
+}
