@@ -12,7 +12,8 @@ use Rattle.survey.specs.declared.table.Verdict.{Verdict}
 use Rattle.survey.specs.declared.table.Verdict.the-variants.{Reserved, Free, Chained, Stray, Aside}
 use Rattle.survey.specs.declared.table.Totals.{Totals}
 use Rattle.survey.specs.Verdicts.{counted, none, totals}
-use Rattle.survey.specs.Steps.{no-record, sum-of}
+use Rattle.survey.specs.Laws.{all-of}
+use Rattle.survey.specs.Steps.{no-record}
 
 pub cleared-more : {X : Type 0} (x : X) (i : ℕ) (ts : List X) → i < length ts → set (replicate i x ++ drop i ts) i x ≡ replicate (suc i) x ++ drop (suc i) ts
 cleared-more x i [] h = absurd (omega arith)
@@ -27,7 +28,7 @@ totals-more ts n i h k =
     let l = length-take-le n ts k in
     ap totals (drop-cons (take n ts) i no-record (omega arith)) ∙ ap (λ (r : Record). counted (r .verdict) (totals (drop (suc i) (take n ts)))) (getD-take n ts i no-record h)
 
-pub sum-counted : (v : Verdict) (t : Totals) → sum-of (counted v t) ≡ sum-of t + 1
+pub sum-counted : (v : Verdict) (t : Totals) → all-of (counted v t) ≡ all-of t + 1
 sum-counted Reserved t = omega arith
 sum-counted Free t = omega arith
 sum-counted Chained t = omega arith

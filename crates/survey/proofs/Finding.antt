@@ -159,7 +159,7 @@ pair-lowest ps n k old ts ls a b sc li long p = record {
                 way (inr x) (inr y) = not-true (alike ts ls (p .i) g) (m .first g (omega arith) before-j) (rivals-alike ps n k old ts ls s (p .i) g i<k v is)
 
 -- The table at the end.
-length-table : (name : Naming) (ps : List Page) → length (table-of name ps) ≡ length ps
+pub length-table : (name : Naming) (ps : List Page) → length (table-of name ps) ≡ length ps
 unfolding table-of
 length-table name ps = length-map-counting (record-of name ps) 0 (length ps)
 

@@ -155,7 +155,7 @@ rest-step name ps x y e = rest-is name ps x (y ∷ rest name ps y) (e, links nam
 pub rest-stop : (name : Naming) (ps : List Page) (x : ℕ) → follower name ps x ≡ None → rest name ps x ≡ []
 rest-stop name ps x e = rest-is name ps x [] e
 
-chain-steps : (name : Naming) (ps : List Page) (q : ℕ) → Steps (follower name ps) q (rest name ps q)
+pub chain-steps : (name : Naming) (ps : List Page) (q : ℕ) → Steps (follower name ps) q (rest name ps q)
 chain-steps name ps q = steps (follower name ps) q (rest name ps q) (links name ps q)
 
 pub no-repeats : (name : Naming) (ps : List Page) (q : ℕ) → Distinct (chain name ps q)

@@ -35,6 +35,11 @@ links-next f z [] l x y (inr i) h = absurd i
 links-next f z (v ∷ vs) l x y (inl e) h = let w : f z ≡ Some y = ap f (sym e) ∙ h in inl (cc (l .0, w))
 links-next f z (v ∷ vs) l x y (inr i) h = inr (links-next f v vs (l .1) x y i h)
 
+pub links-at : (f : ℕ → Option ℕ) (x : ℕ) (ys : List ℕ) → Links f x ys → (k : ℕ) → suc k < length (x ∷ ys) → f (getD (x ∷ ys) k 0) ≡ Some (getD (x ∷ ys) (suc k) 0)
+links-at f x [] l k h = absurd (omega arith)
+links-at f x (y ∷ ys) l zero h = l .0
+links-at f x (y ∷ ys) l (suc k) h = links-at f y ys (l .1) k (omega arith)
+
 -- Membership as a test.
 pub in-is-in : (p : ℕ) (qs : List ℕ) → In p qs → is-in p qs ≡ true
 in-is-in p [] i = absurd i
@@ -164,11 +169,21 @@ enough f num up n below x =
     let same : behind f n x ≡ behind f (suc n) x = is-behind f x (behind f (suc n) x) w n short in
     subst (λ (ys : List ℕ). Links f x ys) (sym same) w
 
--- A walk elsewhere, step for step.
-pub moved-behind : (f g : ℕ → Option ℕ) (s : ℕ → ℕ) → ((u : ℕ) → g (s u) ≡ mapped s (f u)) → (n x : ℕ) → behind g n (s x) ≡ map s (behind f n x)
-moved-behind f g s h zero x = refl
-moved-behind f g s h (suc n) x = rw (h x) (go (f x) (λ y. moved-behind f g s h n y))
+-- A walk elsewhere, step for step, among the numbers below n.
+pub moved-behind : (f g : ℕ → Option ℕ) (s : ℕ → ℕ) (n : ℕ) → ((u v : ℕ) → f u ≡ Some v → v < n) → ((u : ℕ) → u < n → g (s u) ≡ mapped s (f u)) → (k x : ℕ) → x < n → behind g k (s x) ≡ map s (behind f k x)
+moved-behind f g s n below h zero x l = refl
+moved-behind f g s n below h (suc k) x l = rw (h x l) (go (f x) refl (λ y m. moved-behind f g s n below h k y m))
   where
-    go : (o : Option ℕ) → ((y : ℕ) → behind g n (s y) ≡ map s (behind f n y)) → onward (behind g n) (mapped s o) ≡ map s (onward (behind f n) o)
-    go None again = refl
-    go (Some y) again = ap (λ zs. s y ∷ zs) (again y)
+    go : (o : Option ℕ) → f x ≡ o → ((y : ℕ) → y < n → behind g k (s y) ≡ map s (behind f k y)) → onward (behind g k) (mapped s o) ≡ map s (onward (behind f k) o)
+    go None e again = refl
+    go (Some y) e again = ap (λ zs. s y ∷ zs) (again y (below x y e))
+
+pub in-map : (s : ℕ → ℕ) (z : ℕ) (ys : List ℕ) → In z (map s ys) → (y : ℕ) × (In y ys) × (z ≡ s y)
+in-map s z [] i = absurd i
+in-map s z (y ∷ ys) (inl e) = (y, inl refl, e)
+in-map s z (y ∷ ys) (inr i) = let r = in-map s z ys i in (r .0, inr (r .1), r .2)
+
+pub map-in : (s : ℕ → ℕ) (y : ℕ) (ys : List ℕ) → In y ys → In (s y) (map s ys)
+map-in s y [] i = absurd i
+map-in s y (z ∷ zs) (inl e) = inl (ap s e)
+map-in s y (z ∷ zs) (inr i) = inr (map-in s y zs i)

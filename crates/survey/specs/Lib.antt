@@ -1,4 +1,5 @@
 pub mod Chains
 pub mod Verdicts
 pub mod Laws
+pub mod Moves
 pub mod Steps

@@ -3,7 +3,7 @@ use mathlib.Core.Path.{_≡_}
 use mathlib.Core.List.{List}
 use mathlib.Core.Bool.{Bool, true, false, cond, _&&_}
 use mathlib.Core.Logic.{_⊎_}
-use Prim.Native.Nat.{ℕ, _+_, _≤_, _<_}
+use Prim.Native.Nat.{ℕ, _≤_, _<_}
 use lib.Dec.{ltb}
 use lib.ListN.{length, getD}
 use Rattle.std.specs.declared.option.Option.{Option}
@@ -13,7 +13,6 @@ use Rattle.disk.specs.declared.label.Label.{Label}
 use Rattle.disk.specs.declared.label.FileId.{FileId}
 use Rattle.disk.specs.Media.{Page, label-at}
 use Rattle.survey.specs.declared.table.Record.{Record}
-use Rattle.survey.specs.declared.table.Totals.{Totals}
 use Rattle.survey.specs.declared.table.Verdict.the-variants.{Reserved}
 use Rattle.survey.specs.declared.trace.Link.{Link}
 use Rattle.survey.specs.Chains.{Naming, leads, is-leader, kept-if, points, joins, chain, same-file}
@@ -92,7 +91,3 @@ pub record Walking (name : Naming) (ps : List Page) (q x : ℕ) (label : Label) 
   pub inside : In x (chain name ps q)
   pub chained : (p : ℕ) → In p (chain name ps q) → (getD new p no-record ≡ record-by ps q p) ⊎ In p (chain name ps x)
   pub others : (p : ℕ) → (In p (chain name ps q) → ⊥) → getD new p no-record ≡ getD old p no-record
-
--- How many pages were counted.
-abbrev pub sum-of : Totals → ℕ
-sum-of t = t .reserved + t .free + t .chained + t .stray + t .aside

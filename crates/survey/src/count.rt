@@ -4,7 +4,7 @@ ghost use mathlib.Core.Path.{_≡_};
 ghost use lib.ListN.{length, take, drop, replicate};
 ghost use Rattle.survey.specs.declared.table.Verdict.the-variants.{Reserved};
 ghost use Rattle.survey.specs.Verdicts.{bare, counted, none, totals};
-ghost use Rattle.survey.specs.Steps.{sum-of};
+ghost use Rattle.survey.specs.Laws.{all-of};
 use crate::table::Record;
 use crate::table::Totals;
 use crate::table::Verdict;
@@ -25,7 +25,7 @@ impl Totals {
 
     // With one page more.
     fn count(&mut self, verdict: Verdict)
-        requires { ⌜ sum-of (now self) < 65535 ⌝ }
+        requires { ⌜ all-of (now self) < 65535 ⌝ }
         ensures { λ _. ⌜ now (self .exit) ≡ counted verdict (now (self .entry)) ⌝ }
     {
         match verdict {
