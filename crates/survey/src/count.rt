@@ -39,7 +39,7 @@ impl Totals {
 }
 
 // How many of the first n records have each verdict.
-pub fn total(table: &[Record], n: u16) -> Totals
+pub(crate) fn total(table: &[Record], n: u16) -> Totals
     requires { ⌜ n ≤ length (now table) ⌝ }
     ensures { λ r. ⌜ r ≡ totals (take n (now (table .entry))) ⌝ }
 {
@@ -51,7 +51,7 @@ pub fn total(table: &[Record], n: u16) -> Totals
 }
 
 // Clears the first n records.
-pub fn clear(table: &mut [Record], n: u16)
+pub(crate) fn clear(table: &mut [Record], n: u16)
     requires { ⌜ n ≤ length (now table) ⌝ }
     ensures { λ _. ⌜ now (table .exit) ≡ replicate n (bare Reserved) ++ drop n (now (table .entry)) ⌝ }
 {

@@ -29,7 +29,7 @@ fn match_behind(table: &[Record], leaders: &[u16], count: usize, i: usize) -> Op
 }
 
 // The first two of the listed pages that have one file id.
-pub fn first_pair(
+pub(crate) fn first_pair(
     table: &[Record],
     leaders: &[u16],
     count: usize,

@@ -83,7 +83,7 @@ fn judge(at: PageAddress, label: Option<Label>, leading: bool) -> Record
 }
 
 // Judges each page by its label alone, and lists the leaders; answers how many there are.
-pub fn scan<R: Reader>(reader: &mut R, table: &mut [Record], leaders: &mut [u16]) -> usize
+pub(crate) fn scan<R: Reader>(reader: &mut R, table: &mut [Record], leaders: &mut [u16]) -> usize
     requires { ⌜ length (R·Reader .medium (now reader) .pages) ≤ length (now table) ⌝ ∗ ⌜ length (R·Reader .medium (now reader) .pages) ≤ length (now leaders) ⌝ }
     ensures same { λ _. ⌜ R·Reader .medium (now (reader .exit)) ≡ R·Reader .medium (now (reader .entry)) ⌝ }
     ensures scanned { λ _. ⌜ Scanned (R·Reader .medium (now (reader .entry)) .pages) (length (R·Reader .medium (now (reader .entry)) .pages)) (now (table .entry)) (now (table .exit)) ⌝ }

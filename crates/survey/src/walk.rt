@@ -27,7 +27,11 @@ fn is_joined(l: Label, m: Label) -> bool
 }
 
 // The page that follows one with that label.
-pub fn next_link<R: Reader>(reader: &mut R, cylinders: Cylinders, label: Label) -> Option<Link>
+pub(crate) fn next_link<R: Reader>(
+    reader: &mut R,
+    cylinders: Cylinders,
+    label: Label,
+) -> Option<Link>
     ensures answer { λ r. ⌜ Linked (page-named (cylinders .count)) (R·Reader .medium (now (reader .entry)) .pages) label r ⌝ }
     ensures same { λ _. ⌜ R·Reader .medium (now (reader .exit)) ≡ R·Reader .medium (now (reader .entry)) ⌝ }
 {
@@ -73,7 +77,12 @@ fn walk<R: Reader>(reader: &mut R, table: &mut [Record], leader: PageAddress)
 }
 
 // Marks the chains of the first `count` leaders of a list, on a pack without rivals.
-pub fn walk_all<R: Reader>(reader: &mut R, table: &mut [Record], leaders: &[u16], count: usize)
+pub(crate) fn walk_all<R: Reader>(
+    reader: &mut R,
+    table: &mut [Record],
+    leaders: &[u16],
+    count: usize,
+)
     requires { ⌜ length (R·Reader .medium (now reader) .pages) ≤ length (now table) ⌝ ∗ ⌜ count ≤ length (now leaders) ⌝ ∗ ⌜ ((j : ℕ) → j < count → is-leader (R·Reader .medium (now reader) .pages) (getD (now leaders) j 0) ≡ true) ⌝ ∗ ⌜ rivalled (R·Reader .medium (now reader) .pages) ≡ 0 ⌝ }
     ensures same { λ _. ⌜ R·Reader .medium (now (reader .exit)) ≡ R·Reader .medium (now (reader .entry)) ⌝ }
     ensures marked { λ _. ⌜ Marked-all (page-named (R·Reader .medium (now (reader .entry)) .cylinders)) (R·Reader .medium (now (reader .entry)) .pages) (now (leaders .entry)) count (now (table .entry)) (now (table .exit)) ⌝ }

@@ -1,0 +1,3 @@
+pub mod Images
+pub mod Steps
+pub mod Bytes
