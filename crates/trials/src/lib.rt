@@ -1,0 +1,23 @@
+// Tests of the disk format, of images, of overlays and of surveys, each from outside its crate.
+#[cfg(test)]
+mod addresses;
+#[cfg(test)]
+mod building;
+#[cfg(test)]
+mod coding;
+#[cfg(test)]
+mod drives;
+#[cfg(test)]
+mod labels;
+#[cfg(test)]
+mod opening;
+#[cfg(test)]
+mod overlays;
+#[cfg(test)]
+mod readers;
+#[cfg(test)]
+mod refusals;
+#[cfg(test)]
+mod rivals;
+#[cfg(test)]
+mod surveys;
