@@ -31,23 +31,32 @@ number NoFreePage = 30
 number Rivals = 31
 number LabelNotFree = 33
 
-abbrev pub meaning : Reason → List ℕ
-meaning TooSmall = codes "a parameter is too small"
-meaning TooBig = codes "a parameter is too big"
-meaning BadParameter = codes "a parameter is bad"
-meaning Hardware = codes "the drive refused a write"
-meaning BadState = codes "the pack is not ready"
-meaning BadName = codes "the name is bad"
-meaning NoSuchEntry = codes "the directory has no such entry"
-meaning BadFile = codes "the file is bad"
-meaning PageNotFull = codes "a page is not full"
-meaning PageNumberTooSmall = codes "the page number is too small"
-meaning BadDiskAddress = codes "the disk address is bad"
-meaning Exists = codes "the name is in the directory already"
-meaning TooMany = codes "there are no more serial numbers"
-meaning NoFreePage = codes "no page is free"
-meaning Rivals = codes "two leaders claim one file"
-meaning LabelNotFree = codes "a page marked free has another label"
+-- What is meant by a bad parameter, by the place.
+abbrev pub bad-parameter : Place → List ℕ
+bad-parameter Image = codes "this is not the image of a pack"
+bad-parameter Pack = codes "this cannot be used"
+bad-parameter Directory = codes "the directory's own entry stays"
+bad-parameter File = codes "the directory's own file is not changed so"
+bad-parameter Drive = codes "this cannot be used"
+
+-- What each reason means, in words.
+abbrev pub meaning : Place → Reason → List ℕ
+meaning place TooSmall = codes "the memory handed over is too small"
+meaning place TooBig = codes "a page, a count or the directory would be too big"
+meaning place BadParameter = bad-parameter place
+meaning place Hardware = codes "the drive refused a write"
+meaning place BadState = codes "the pack is not ready"
+meaning place BadName = codes "the name is not a good one"
+meaning place NoSuchEntry = codes "the directory has no such entry"
+meaning place BadFile = codes "no such file stands there, or it cannot be read"
+meaning place PageNotFull = codes "a page is not full"
+meaning place PageNumberTooSmall = codes "the page number is too small"
+meaning place BadDiskAddress = codes "the disk address is not one of the pack"
+meaning place Exists = codes "the name is in the directory already"
+meaning place TooMany = codes "there are no more serial numbers"
+meaning place NoFreePage = codes "no page is free"
+meaning place Rivals = codes "two leaders claim one file"
+meaning place LabelNotFree = codes "a page that should be free has another label"
 
 abbrev pub place-name : Place → List ℕ
 place-name Image = codes "image"
@@ -74,4 +83,4 @@ second (Some q) = codes " " ++ decimal (q .page)
 
 -- What is printed of a refusal: refused NUMBER PLACE PAGE, or with both pages, and what it means.
 abbrev pub told : Refusal → List ℕ
-told e = codes "refused " ++ (decimal (number (e .reason)) ++ (codes " " ++ (place-name (e .place) ++ (codes " " ++ (decimal (e .page .page) ++ (second (e .other) ++ (codes ": " ++ meaning (e .reason))))))))
+told e = codes "refused " ++ (decimal (number (e .reason)) ++ (codes " " ++ (place-name (e .place) ++ (codes " " ++ (decimal (e .page .page) ++ (second (e .other) ++ (codes ": " ++ meaning (e .place) (e .reason))))))))

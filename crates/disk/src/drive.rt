@@ -12,7 +12,7 @@ pub trait Reader {
     // what it means: its pages, and for a drive whether it is on and whether it is steady
     ghost medium: { Self → Medium };
 
-    // How large the pack is. It has 24 pages for each cylinder, and never any other number.
+    // How large the pack is: 24 pages for each cylinder.
     fn cylinders(&self) -> Cylinders
         ensures count { λ r. ⌜ r .count ≡ medium (now (self .entry)) .cylinders ⌝ }
         ensures pages { λ r. ⌜ length (medium (now (self .entry)) .pages) ≡ 24 * r .count ⌝ };

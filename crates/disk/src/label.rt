@@ -49,7 +49,7 @@ impl FileId {
         self.serial1 / 32768 % 2 == 1
     }
 
-    // Whether bit 1 of the first serial word is set.
+    // Whether bit 1 of the first serial word, the random mark, is set.
     pub fn is_random(self) -> bool
         ensures { λ r. ⌜ r ≡ random-mark self ⌝ }
     {

@@ -1,13 +1,13 @@
 ghost use mathlib.Core.Path.{_≡_};
 ghost use Rattle.std.specs.declared.option.Option.the-variants.{Some, None};
-ghost use Rattle.disk.specs.Refusals.{number, place-name, meaning, refusal, refusal-of-two, told};
+ghost use Rattle.disk.specs.Refusals.{number, place-name, bad-parameter, meaning, refusal, refusal-of-two, told};
 use crate::address::PageAddress;
 use crate::address::PageAddressDebug;
 use crate::address::PageAddressEq;
 use crate::address::PageAddressPartialEq;
 use std::fmt;
 
-// Why a call is refused. The numbers to 21 are those of the Alto's own system messages.
+// Why a call is refused. The numbers to 21 are those of the Alto operating system's messages.
 #[derive(Clone, Copy, PartialEq, Eq, Debug)]
 pub enum Reason {
     TooSmall = 4,
@@ -35,27 +35,27 @@ impl Reason {
         self as u16
     }
 
-    // What the refusal means, in words.
-    pub fn meaning(self) -> &'static str
-        ensures { λ r. ⌜ now r ≡ meaning self ⌝ }
+    // What a refusal of that place means, in words.
+    pub fn meaning(self, place: Place) -> &'static str
+        ensures { λ r. ⌜ now r ≡ meaning place self ⌝ }
     {
         match self {
-            Reason::TooSmall => "a parameter is too small",
-            Reason::TooBig => "a parameter is too big",
-            Reason::BadParameter => "a parameter is bad",
+            Reason::TooSmall => "the memory handed over is too small",
+            Reason::TooBig => "a page, a count or the directory would be too big",
+            Reason::BadParameter => place.bad_parameter(),
             Reason::Hardware => "the drive refused a write",
             Reason::BadState => "the pack is not ready",
-            Reason::BadName => "the name is bad",
+            Reason::BadName => "the name is not a good one",
             Reason::NoSuchEntry => "the directory has no such entry",
-            Reason::BadFile => "the file is bad",
+            Reason::BadFile => "no such file stands there, or it cannot be read",
             Reason::PageNotFull => "a page is not full",
             Reason::PageNumberTooSmall => "the page number is too small",
-            Reason::BadDiskAddress => "the disk address is bad",
+            Reason::BadDiskAddress => "the disk address is not one of the pack",
             Reason::Exists => "the name is in the directory already",
             Reason::TooMany => "there are no more serial numbers",
             Reason::NoFreePage => "no page is free",
             Reason::Rivals => "two leaders claim one file",
-            Reason::LabelNotFree => "a page marked free has another label",
+            Reason::LabelNotFree => "a page that should be free has another label",
         }
     }
 }
@@ -80,6 +80,19 @@ impl Place {
             Place::Directory => "directory",
             Place::File => "file",
             Place::Drive => "drive",
+        }
+    }
+
+    // What cannot be used: words that are no image, or the directory's own file.
+    fn bad_parameter(self) -> &'static str
+        ensures { λ r. ⌜ now r ≡ bad-parameter self ⌝ }
+    {
+        match self {
+            Place::Image => "this is not the image of a pack",
+            Place::Pack => "this cannot be used",
+            Place::Directory => "the directory's own entry stays",
+            Place::File => "the directory's own file is not changed so",
+            Place::Drive => "this cannot be used",
         }
     }
 }
@@ -130,7 +143,7 @@ pub impl fmt::Display for Refusal as RefusalDisplay {
         let number = self.number();
         let place = self.place.name();
         let page = self.page.page;
-        let meaning = self.reason.meaning();
+        let meaning = self.reason.meaning(self.place);
         match self.other {
             None => write!(f, "refused {number} {place} {page}: {meaning}"),
             Some(other) => {

@@ -1,22 +1,22 @@
 -- What a write does to the words of an image, and to its pages.
 use mathlib.Core.Path.{_≡_, refl, sym, _∙_, ap, subst}
-use mathlib.Core.List.{List, [], _∷_}
+use mathlib.Core.List.{List, [], _∷_, _++_}
 use mathlib.Core.Bool.{Bool, true}
-use mathlib.Core.Logic.{inl, inr}
+use mathlib.Core.Logic.{_⊎_, inl, inr, ⊎-elim}
 use Prim.Native.Nat.{ℕ, suc, zero, _+_, _-_, _*_, _/_, _%_, _≤_, _<_}
 use native.Mathlib.Nat.{add-zero}
 use native.Mathlib.Omega.{arith}
 use borrow.Author.Count.{below-more}
 use lib.Dec.{eqb, ltb, leb, lit<}
 use lib.ListN.{length, getD, set, take, drop, length-set}
-use Rattle.std.proofs.shelf.Lists.{getD-set-same, getD-set-other, ext-getD, getD-take, getD-drop, length-take, length-take-le, length-drop, drop-set-add}
+use Rattle.std.proofs.shelf.Lists.{getD-set-same, getD-set-other, ext-getD, getD-take, getD-drop, length-take, length-take-le, length-drop, drop-set-add, length-append, getD-append-left, getD-append-right}
 use Rattle.std.proofs.shelf.Tests.{and-parts, and-from, eq-eqb, lt-ltb, le-leb, leb-true, cases-eq, cases-lt}
 use Rattle.std.proofs.shelf.Ways.{tells}
 use Rattle.std.specs.declared.option.Option.the-variants.{Some}
 use Rattle.disk.specs.declared.label.Label.{Label}
 use Rattle.disk.specs.Labels.{label-from, words-of}
-use Rattle.disk.specs.Media.{Page, unreadable, after, label-write, data-write}
-use Rattle.image.specs.Images.{count, marks-fine, is-image, mark, label-in, data-in, page-in, table, pages-in, cylinders-in, image-medium}
+use Rattle.disk.specs.Media.{Page, unreadable, after, a-label, a-data, label-write, data-write}
+use Rattle.image.specs.Images.{count, marks-fine, is-image, mark, label-in, data-in, page-in, table, pages-in, cylinders-in, image-medium, replaced, stored}
 use Rattle.image.specs.Steps.{Inside, Overwritten}
 use Rattle.image.proofs.Tables.{image-shape, image-marks, image-from, count-is, length-table, at-table, pages-on, label-near, data-near}
 
@@ -251,3 +251,36 @@ data-put on ws vs n p v d h e b full m a =
     data-put-at on ws vs p d h b full
     (subst (λ (k : ℕ). Overwritten (2 + 8 * k + 256 * p) 256 d (set ws (3 + 264 * k + p) (mark ws k p % 2)) vs) e
     (subst (λ (x : ℕ). Overwritten (2 + 8 * n + 256 * p) 256 d (set ws (3 + 264 * n + p) x) vs) m a))
+
+-- Words overwritten place by place are the words with the new ones in between.
+pub overwritten-is : (i : ℕ) (new xs ys : List ℕ) → i + length new ≤ length xs → Overwritten i (length new) new xs ys → ys ≡ replaced i new xs
+overwritten-is i new xs ys h o =
+    let a = o .same-length in
+    let lt = length-take-le i xs (omega arith) in
+    let ld = length-drop (i + length new) xs in
+    let l1 = length-append (take i xs) (new ++ drop (i + length new) xs) in
+    let l2 = length-append new (drop (i + length new) xs) in
+    ext-getD 0 ys (replaced i new xs) (omega arith)
+    (λ k b. ⊎-elim (λ (u : k < i). o .below k u ∙ (sym (getD-take i xs k 0 u) ∙ sym (getD-append-left (take i xs) (new ++ drop (i + length new) xs) 0 k (omega arith))))
+    (λ (u : i ≤ k). inner k u (cases-lt (k - i) (length new)) ∙ sym (getD-append-right (take i xs) (new ++ drop (i + length new) xs) i k 0 lt u))
+    (cases-lt k i))
+  where
+    inner : (k : ℕ) → i ≤ k → (k - i < length new) ⊎ (length new ≤ k - i) → getD ys k 0 ≡ getD (new ++ drop (i + length new) xs) (k - i) 0
+    inner k u (inl v) = ap (λ (j : ℕ). getD ys j 0) {x = k} {y = i + (k - i)} (omega arith) ∙ (o .here (k - i) v ∙ sym (getD-append-left new (drop (i + length new) xs) 0 (k - i) v))
+    inner k u (inr v) =
+        o .above k (omega arith) ∙ (ap (λ (j : ℕ). getD xs j 0) {x = k} {y = (i + length new) + (k - i - length new)} (omega arith)
+        ∙ (sym (getD-drop (i + length new) xs (k - i - length new) 0) ∙ sym (getD-append-right new (drop (i + length new) xs) (length new) (k - i) 0 refl v)))
+
+pub label-stored : (ws vs : List ℕ) (n p v : ℕ) (l : Label) → n ≡ count ws → v ≡ mark ws n p - mark ws n p % 2 → 9 + 8 * p ≤ length ws → Overwritten (1 + 8 * p) (length (words-of l)) (words-of l) (set ws (3 + 264 * n + p) v) vs → vs ≡ stored ws p (a-label l)
+label-stored ws vs n p v l e d h a =
+    let k = length-set ws (3 + 264 * n + p) v in
+    overwritten-is (1 + 8 * p) (words-of l) (set ws (3 + 264 * n + p) v) vs (omega arith) a
+    ∙ (ap (λ (x : ℕ). replaced (1 + 8 * p) (words-of l) (set ws (3 + 264 * n + p) x)) d
+    ∙ ap (λ (x : ℕ). replaced (1 + 8 * p) (words-of l) (set ws (3 + 264 * x + p) (mark ws x p - mark ws x p % 2))) e)
+
+pub data-stored : (ws vs : List ℕ) (n p v : ℕ) (d : List ℕ) → n ≡ count ws → v ≡ mark ws n p % 2 → length d ≡ 256 → 2 + 8 * n + 256 * p + 256 ≤ length ws → Overwritten (2 + 8 * n + 256 * p) 256 d (set ws (3 + 264 * n + p) v) vs → vs ≡ stored ws p (a-data d)
+data-stored ws vs n p v d e q f h a =
+    let k = length-set ws (3 + 264 * n + p) v in
+    overwritten-is (2 + 8 * n + 256 * p) d (set ws (3 + 264 * n + p) v) vs (omega arith) (subst (λ (x : ℕ). Overwritten (2 + 8 * n + 256 * p) x d (set ws (3 + 264 * n + p) v) vs) (sym f) a)
+    ∙ (ap (λ (x : ℕ). replaced (2 + 8 * n + 256 * p) d (set ws (3 + 264 * n + p) x)) q
+    ∙ ap (λ (x : ℕ). replaced (2 + 8 * x + 256 * p) d (set ws (3 + 264 * x + p) (mark ws x p % 2))) e)

@@ -1,16 +1,19 @@
 -- The write rule for a drive over words.
 use mathlib.Core.Path.{_≡_, refl, sym, _∙_, ap, subst}
 use mathlib.Core.List.{List}
-use mathlib.Core.Bool.{Bool, true, false, not, _&&_}
+use mathlib.Core.Bool.{Bool, true, false, cond, not, _&&_}
 use mathlib.Core.Logic.{_⊎_, inl, inr}
 use Prim.Native.Nat.{ℕ, _*_, _<_}
 use native.Mathlib.Omega.{arith}
 use lib.Dec.{ltb}
 use lib.ListN.{length}
 use Rattle.std.proofs.shelf.Tests.{and-parts, ltb-true, ltb-false, true≢false}
+use Rattle.std.specs.declared.result.Result.{Result}
+use Rattle.std.specs.declared.result.Result.the-variants.{Ok, Err}
+use Rattle.disk.specs.declared.refusal.Refusal.{Refusal}
+use Rattle.disk.specs.Refusals.{hardware}
 use Rattle.disk.specs.Media.{Page, Part, a-label, a-data, Write, after, Went, Ignored, Cut, Torn}
-use Rattle.image.specs.Images.{count, is-image, pages-in, cylinders-in, image-medium}
-use Rattle.image.specs.Steps.{goes-through, stays-on}
+use Rattle.image.specs.Images.{count, is-image, pages-in, cylinders-in, image-medium, goes-through, stays-on, stored, Exactly}
 use Rattle.image.proofs.Tables.{length-pages, count-is}
 
 same-medium : (on was : Bool) (vs ws : List ℕ) → on ≡ was → vs ≡ ws → image-medium on vs ≡ image-medium was ws
@@ -61,3 +64,18 @@ let-through on later p ws vs h e s =
 pub went : (w : Write) (on later last : Bool) (ws vs us : List ℕ) → Through on later (w .page) ws vs → vs ≡ ws → image-medium last us ≡ after w (image-medium later vs) → Went w (image-medium on ws) (image-medium last us)
 went w on later last ws vs us l e m =
     record { goes = record { on = l .was-on; inside = l .inside }; is = m ∙ ap (λ x. after w x) (same-medium later on vs ws (l .same-on) e) }
+
+-- The one result, where the write is refused and where it is let through.
+pub exactly-refused : (w : Write) (on later : Bool) (ws vs : List ℕ) (e : Refusal) → goes-through on ws (w .page) ≡ false → vs ≡ ws → later ≡ stays-on on ws (w .page) → e ≡ hardware (w .page) → Exactly w on ws (Err e) later vs
+exactly-refused w on later ws vs e h s t n = record {
+  answer = ap {B = Result (Unit {0}) Refusal} Err n ∙ sym (ap (λ (b : Bool). cond b (Ok tt) (Err (hardware (w .page)))) h);
+  words = s ∙ sym (ap (λ (b : Bool). cond b (stored ws (w .page) (w .part)) ws) h);
+  still-on = t;
+}
+
+pub exactly-went : (w : Write) (on later last : Bool) (ws vs us : List ℕ) → goes-through on ws (w .page) ≡ true → vs ≡ ws → later ≡ stays-on on ws (w .page) → last ≡ later → us ≡ stored vs (w .page) (w .part) → Exactly w on ws (Ok tt) last us
+exactly-went w on later last ws vs us h s t l n = record {
+  answer = sym (ap (λ (b : Bool). cond b (Ok tt) (Err (hardware (w .page)))) h);
+  words = n ∙ (ap (λ (xs : List ℕ). stored xs (w .page) (w .part)) s ∙ sym (ap (λ (b : Bool). cond b (stored ws (w .page) (w .part)) ws) h));
+  still-on = l ∙ t;
+}

@@ -2,9 +2,9 @@ ghost use mathlib.Core.Bool.{true};
 ghost use mathlib.Core.Path.{_≡_};
 ghost use Prim.Native.Nat.{_<_};
 ghost use lib.ListN.{length};
-ghost use Rattle.disk.specs.Media.{label-at, data-at, after, label-write, data-write};
-ghost use Rattle.image.specs.Images.{count, is-image, cylinders-in, pages-in, image-medium};
-ghost use Rattle.image.specs.Steps.{goes-through, stays-on, Inside, Overwritten};
+ghost use Rattle.disk.specs.Media.{label-at, data-at, after, a-label, a-data, label-write, data-write, Written, spun-up};
+ghost use Rattle.image.specs.Images.{count, is-image, cylinders-in, pages-in, image-medium, goes-through, stays-on, stored, Exactly};
+ghost use Rattle.image.specs.Steps.{Inside, Overwritten};
 use crate::layout::data_mended;
 use crate::layout::label_mended;
 use crate::layout::measure;
@@ -19,7 +19,7 @@ use disk::Reader;
 use disk::Reason;
 use disk::Refusal;
 
-// A drive that keeps its pack in the words of an image. Over words that are none it has one
+// A drive that keeps its pack in the words of an image. Over words that are no image it has one
 // cylinder that cannot be read, and turns off at each write to it.
 #[derive(Drop)]
 pub struct ImageDrive<'a> {
@@ -66,8 +66,8 @@ impl<'a> ImageDrive<'a> {
         read_data(self.words, self.opened, self.cylinders, page)
     }
 
-    // Whether a write to the page goes through. One that does not may turn the drive off.
-    fn takes(&mut self, page: u16) -> bool
+    // Whether a write to the page goes through. Over words that are no image it turns the drive off.
+    fn admit(&mut self, page: u16) -> bool
         ensures answer { λ r. ⌜ r ≡ goes-through (now (self .entry) .on) (now (now (self .entry) .words)) page ⌝ }
         ensures words { λ _. ⌜ now (now (self .exit) .words) ≡ now (now (self .entry) .words) ⌝ }
         ensures on { λ _. ⌜ now (self .exit) .on ≡ stays-on (now (self .entry) .on) (now (now (self .entry) .words)) page ⌝ }
@@ -96,7 +96,9 @@ impl<'a> ImageDrive<'a> {
     fn put_label(&mut self, page: u16, label: Label)
         requires image { ⌜ is-image (now (now self .words)) ≡ true ⌝ }
         requires inside { ⌜ page < count (now (now self .words)) ⌝ }
-        ensures { λ _. ⌜ image-medium (now (self .exit) .on) (now (now (self .exit) .words)) ≡ after (label-write page label) (image-medium (now (self .entry) .on) (now (now (self .entry) .words))) ⌝ }
+        ensures words { λ _. ⌜ now (now (self .exit) .words) ≡ stored (now (now (self .entry) .words)) page (a-label label) ⌝ }
+        ensures on { λ _. ⌜ now (self .exit) .on ≡ now (self .entry) .on ⌝ }
+        ensures medium { λ _. ⌜ image-medium (now (self .exit) .on) (now (now (self .exit) .words)) ≡ after (label-write page label) (image-medium (now (self .entry) .on) (now (now (self .entry) .words))) ⌝ }
     {
         let n = self.cylinders.pages() as usize;
         let p = page as usize;
@@ -109,7 +111,9 @@ impl<'a> ImageDrive<'a> {
     fn put_data(&mut self, page: u16, data: &[u16; 256])
         requires image { ⌜ is-image (now (now self .words)) ≡ true ⌝ }
         requires inside { ⌜ page < count (now (now self .words)) ⌝ }
-        ensures { λ _. ⌜ image-medium (now (self .exit) .on) (now (now (self .exit) .words)) ≡ after (data-write page (now («data» .entry))) (image-medium (now (self .entry) .on) (now (now (self .entry) .words))) ⌝ }
+        ensures words { λ _. ⌜ now (now (self .exit) .words) ≡ stored (now (now (self .entry) .words)) page (a-data (now («data» .entry))) ⌝ }
+        ensures on { λ _. ⌜ now (self .exit) .on ≡ now (self .entry) .on ⌝ }
+        ensures medium { λ _. ⌜ image-medium (now (self .exit) .on) (now (now (self .exit) .words)) ≡ after (data-write page (now («data» .entry))) (image-medium (now (self .entry) .on) (now (now (self .entry) .words))) ⌝ }
     {
         let n = self.cylinders.pages() as usize;
         let p = page as usize;
@@ -126,33 +130,52 @@ pub impl<'a> Reader for ImageDrive<'a> as ImageDriveReader {
         self.cylinders
     }
 
-    fn read_label(&mut self, at: PageAddress) -> Option<Label> {
+    fn read_label(&mut self, at: PageAddress) -> Option<Label>
+        ensures answer { λ r. ⌜ r ≡ label-at (image-medium (now (self .entry) .on) (now (now (self .entry) .words)) .pages) (at .page) ⌝ }
+        ensures same { λ _. ⌜ image-medium (now (self .exit) .on) (now (now (self .exit) .words)) ≡ image-medium (now (self .entry) .on) (now (now (self .entry) .words)) ⌝ }
+        ensures words { λ _. ⌜ now (now (self .exit) .words) ≡ now (now (self .entry) .words) ⌝ }
+        ensures on { λ _. ⌜ now (self .exit) .on ≡ now (self .entry) .on ⌝ }
+    {
         self.label(at.page)
     }
 
-    fn read_data(&mut self, at: PageAddress) -> Option<[u16; 256]> {
+    fn read_data(&mut self, at: PageAddress) -> Option<[u16; 256]>
+        ensures answer { λ r. ⌜ r ≡ data-at (image-medium (now (self .entry) .on) (now (now (self .entry) .words)) .pages) (at .page) ⌝ }
+        ensures same { λ _. ⌜ image-medium (now (self .exit) .on) (now (now (self .exit) .words)) ≡ image-medium (now (self .entry) .on) (now (now (self .entry) .words)) ⌝ }
+        ensures words { λ _. ⌜ now (now (self .exit) .words) ≡ now (now (self .entry) .words) ⌝ }
+        ensures on { λ _. ⌜ now (self .exit) .on ≡ now (self .entry) .on ⌝ }
+    {
         self.data_words(at.page)
     }
 }
 
 pub impl<'a> Drive for ImageDrive<'a> as ImageDriveDrive {
-    fn write_label(&mut self, at: PageAddress, label: Label) -> Result<(), Refusal> {
-        if !self.takes(at.page) {
+    fn write_label(&mut self, at: PageAddress, label: Label) -> Result<(), Refusal>
+        ensures rule { λ r. ⌜ Written (label-write (at .page) label) (image-medium (now (self .entry) .on) (now (now (self .entry) .words))) r (image-medium (now (self .exit) .on) (now (now (self .exit) .words))) ⌝ }
+        ensures exactly { λ r. ⌜ Exactly (label-write (at .page) label) (now (self .entry) .on) (now (now (self .entry) .words)) r (now (self .exit) .on) (now (now (self .exit) .words)) ⌝ }
+    {
+        if !self.admit(at.page) {
             return Err(Refusal::new(Reason::Hardware, Place::Drive, at));
         }
         self.put_label(at.page, label);
         Ok(())
     }
 
-    fn write_data(&mut self, at: PageAddress, words: &[u16; 256]) -> Result<(), Refusal> {
-        if !self.takes(at.page) {
+    fn write_data(&mut self, at: PageAddress, words: &[u16; 256]) -> Result<(), Refusal>
+        ensures rule { λ r. ⌜ Written (data-write (at .page) (now (words .entry))) (image-medium (now (self .entry) .on) (now (now (self .entry) .words))) r (image-medium (now (self .exit) .on) (now (now (self .exit) .words))) ⌝ }
+        ensures exactly { λ r. ⌜ Exactly (data-write (at .page) (now (words .entry))) (now (self .entry) .on) (now (now (self .entry) .words)) r (now (self .exit) .on) (now (now (self .exit) .words)) ⌝ }
+    {
+        if !self.admit(at.page) {
             return Err(Refusal::new(Reason::Hardware, Place::Drive, at));
         }
         self.put_data(at.page, words);
         Ok(())
     }
 
-    fn spin_up(&mut self) {
+    fn spin_up(&mut self)
+        ensures rule { λ _. ⌜ image-medium (now (self .exit) .on) (now (now (self .exit) .words)) ≡ spun-up (image-medium (now (self .entry) .on) (now (now (self .entry) .words))) ⌝ }
+        ensures words { λ _. ⌜ now (now (self .exit) .words) ≡ now (now (self .entry) .words) ⌝ }
+    {
         self.on = true;
     }
 }

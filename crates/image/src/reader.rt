@@ -9,7 +9,7 @@ use disk::Label;
 use disk::PageAddress;
 use disk::Reader;
 
-// Reads the words of an image. Words that are none are one cylinder that cannot be read.
+// Reads the words of an image. Over words that are no image it has one cylinder that cannot be read.
 #[derive(Drop)]
 pub struct ImageReader<'a> {
     words: &'a [u16],

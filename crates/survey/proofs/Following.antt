@@ -142,7 +142,7 @@ pub links : (name : Naming) (ps : List Page) (q : ℕ) → Links (follower name 
 unfolding rest
 links name ps q = enough (follower name ps) (λ x. number (label-at ps x)) (up name ps) (length ps) (below name ps) q
 
-rest-is : (name : Naming) (ps : List Page) (q : ℕ) (ys : List ℕ) → Links (follower name ps) q ys → rest name ps q ≡ ys
+pub rest-is : (name : Naming) (ps : List Page) (q : ℕ) (ys : List ℕ) → Links (follower name ps) q ys → rest name ps q ≡ ys
 unfolding rest
 rest-is name ps q ys l =
     let st = steps (follower name ps) q ys l in

@@ -50,7 +50,7 @@ unfolding rivalled
 named-pair ps h = record {
   stands = stands ps (rivalled ps) (rival-of ps (rivalled ps)) (rivalled-is ps h);
   lowest = λ p q r. low p q r (cases-lt p (rivalled ps));
-  nearest = λ q r. near q r (cases-lt q (rival-of ps (rivalled ps)));
+  lowest-rival = λ q r. near q r (cases-lt q (rival-of ps (rivalled ps)));
 }
   where
     low : (p q : ℕ) → Rivals-stand ps p q → (p < rivalled ps) ⊎ (rivalled ps ≤ p) → rivalled ps ≤ p

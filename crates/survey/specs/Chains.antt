@@ -34,12 +34,13 @@ leads (Some l) = is-file l && (eqb (l .number) 0 && eqb (l .characters) 512)
 abbrev pub is-leader : List Page → ℕ → Bool
 is-leader ps p = ltb 0 p && leads (label-at ps p)
 
--- The page that a label names as its next, by itself: none unless it has 512 characters and its
--- next names a page above 0.
+-- A page that passes a test, or none.
 abbrev pub kept-if : (ℕ → Bool) → Option ℕ → Option ℕ
 kept-if test None = None
 kept-if test (Some p) = cond (test p) (Some p) None
 
+-- The page that a label names as its next, by itself: none unless it has 512 characters and its
+-- next names a page above 0.
 abbrev pub points : Naming → Option Label → Option ℕ
 points name None = None
 points name (Some l) = cond (eqb (l .characters) 512) (kept-if (ltb 0) (name (l .next .word))) None
@@ -55,7 +56,7 @@ joins (Some l) (Some m) = is-file m && (same-id l m && eqb (m .number) (l .numbe
 abbrev pub follower : Naming → List Page → ℕ → Option ℕ
 follower name ps q = kept-if (λ p. joins (label-at ps q) (label-at ps p)) (points name (label-at ps q))
 
--- The pages behind page q: the one that follows it, and so on. There are fewer than the pack has.
+-- At most n pages that are come to from page q, one after the other, by a step function.
 abbrev pub onward : (ℕ → List ℕ) → Option ℕ → List ℕ
 onward more None = []
 onward more (Some p) = p ∷ more p
@@ -64,6 +65,7 @@ abbrev pub behind : (ℕ → Option ℕ) → ℕ → ℕ → List ℕ
 behind next zero q = []
 behind next (suc n) q = onward (behind next n) (next q)
 
+-- The pages behind page q: the one that follows it, and so on. There are fewer than the pack has.
 unfoldable pub rest : Naming → List Page → ℕ → List ℕ
 rest name ps q = behind (follower name ps) (length ps) q
 
@@ -88,12 +90,13 @@ pages-above ps = counting 1 (length ps - 1)
 unfoldable pub leader-of : Naming → List Page → ℕ → ℕ
 leader-of name ps p = first-of (λ q. is-leader ps q && is-in p (chain name ps q)) (pages-above ps)
 
--- Two leaders of one file id are rivals.
+-- Two labels of one file id.
 abbrev pub one-file : Option Label → Option Label → Bool
 one-file None m = false
 one-file (Some l) None = false
 one-file (Some l) (Some m) = same-id l m
 
+-- Two leaders of one file id are rivals.
 abbrev pub are-rivals : List Page → ℕ → ℕ → Bool
 are-rivals ps p q = not (eqb p q) && (is-leader ps p && (is-leader ps q && one-file (label-at ps p) (label-at ps q)))
 

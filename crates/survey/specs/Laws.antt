@@ -61,7 +61,7 @@ pub record Rivals-stand (ps : List Page) (p q : ℕ) : Type 0 where
 pub record Named-pair (ps : List Page) : Type 0 where
   pub stands : Rivals-stand ps (rivalled ps) (rival-of ps (rivalled ps))
   pub lowest : (p q : ℕ) → Rivals-stand ps p q → rivalled ps ≤ p
-  pub nearest : (q : ℕ) → Rivals-stand ps (rivalled ps) q → rival-of ps (rivalled ps) ≤ q
+  pub lowest-rival : (q : ℕ) → Rivals-stand ps (rivalled ps) q → rival-of ps (rivalled ps) ≤ q
 
 -- The chain of a leader: linked, to its end, numbered from 0 without a gap, no page twice.
 pub record Sound-chain (name : Naming) (ps : List Page) (q : ℕ) : Type 0 where

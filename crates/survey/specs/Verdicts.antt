@@ -74,16 +74,19 @@ abbrev pub totals : List Record → Totals
 totals [] = none
 totals (r ∷ rs) = counted (r .verdict) (totals rs)
 
--- The answer of a survey into a table of k records: too few are refused first, then rivals.
+-- The answer where the table is long enough, and p is the lowest page that has a rival, or 0.
 abbrev pub found : Naming → List Page → ℕ → Result Totals Refusal
 found name ps p = cond (ltb 0 p) (Err (refusal-of-two Rivals Pack p (rival-of ps p))) (Ok (totals (table-of name ps)))
 
+-- The answer of a survey into a table of k records: too few are refused first, then rivals.
 abbrev pub survey-answer : Naming → List Page → ℕ → Result Totals Refusal
 survey-answer name ps k = cond (ltb k (length ps)) (Err (refusal TooSmall Pack 0)) (found name ps (rivalled ps))
 
--- The table after it: records past the pages are never touched; with rivals the others are zero.
+-- The table after it, in the same case: records past the pages are not touched; with rivals the
+-- others are zero.
 abbrev pub filled : Naming → List Page → ℕ → List Record → List Record
 filled name ps p ts = cond (ltb 0 p) (replicate (length ps) (bare Reserved)) (table-of name ps) ++ drop (length ps) ts
 
+-- The table after a survey: a table of too few records is not touched at all.
 abbrev pub survey-table : Naming → List Page → List Record → List Record
 survey-table name ps ts = cond (ltb (length ts) (length ps)) ts (filled name ps (rivalled ps) ts)

@@ -38,7 +38,7 @@ impl Totals {
     }
 }
 
-// How many of the first n records have each verdict.
+// How many of the first n records have each verdict, counted from the last one down.
 pub(crate) fn total(table: &[Record], n: u16) -> Totals
     requires { ⌜ n ≤ length (now table) ⌝ }
     ensures { λ r. ⌜ r ≡ totals (take n (now (table .entry))) ⌝ }

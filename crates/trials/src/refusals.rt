@@ -60,7 +60,11 @@ fn check_printed(heap: Global, refusal: Refusal, text: &str) -> Result<(), Fail>
 fn refusals_of_one_page_as_printed(rt: LibcRuntime) -> Result<(), Fail> {
     let heap = rt.alloc();
     let image = Refusal::new(Reason::BadParameter, Place::Image, at(0));
-    check_printed(heap, image, "refused 6 image 0: a parameter is bad")?;
+    check_printed(
+        heap,
+        image,
+        "refused 6 image 0: this is not the image of a pack",
+    )?;
     let drive = Refusal::new(Reason::Hardware, Place::Drive, at(9743));
     check_printed(
         heap,

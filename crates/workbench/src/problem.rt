@@ -77,10 +77,7 @@ pub impl fmt::Display for Problem as ProblemDisplay {
                     "the file has {bytes} bytes, and the image of the largest pack (406 cylinders) has 5164326"
                 )
             }
-            Problem::NoImage(refusal, flaw) => write!(
-                f,
-                "{refusal} (not the image of a pack: {flaw})"
-            ),
+            Problem::NoImage(refusal, flaw) => write!(f, "{refusal} ({flaw})"),
             Problem::Refused(refusal) => write!(f, "{refusal}"),
             Problem::Rivals(refusal, id) => {
                 let version = id.version;

@@ -15,7 +15,7 @@ use Rattle.disk.proofs.refusal.RefusalDisplay.fmt.Needs as need
 abbrev line : ℕ → List ℕ → ℕ → Option PageAddress → List ℕ → List ℕ
 line n p q o m = codes "refused " ++ (decimal n ++ (codes " " ++ (p ++ (codes " " ++ (decimal q ++ (second o ++ (codes ": " ++ m)))))))
 
-said : {W : Type 0} (took : W → List ℕ → W → Type 0) (f : Formatter W) (g : Formatter W) (e : Refusal) (n : ℕ) (p : List ℕ) (o : Option PageAddress) (m : List ℕ) → n ≡ number (e .reason) → p ≡ place-name (e .place) → e .other ≡ o → m ≡ meaning (e .reason) → Put took f (line n p (e .page .page) o m) g → Put took f (told e) g
+said : {W : Type 0} (took : W → List ℕ → W → Type 0) (f : Formatter W) (g : Formatter W) (e : Refusal) (n : ℕ) (p : List ℕ) (o : Option PageAddress) (m : List ℕ) → n ≡ number (e .reason) → p ≡ place-name (e .place) → e .other ≡ o → m ≡ meaning (e .place) (e .reason) → Put took f (line n p (e .page .page) o m) g → Put took f (told e) g
 said took f g e n p o m a b x d = subst (λ (l : List ℕ). Put took f l g) (ap (λ (k : ℕ). line k p (e .page .page) o m) a ∙ (ap (λ (l : List ℕ). line (number (e .reason)) l (e .page .page) o m) b ∙ (ap (λ (l : Option PageAddress). line (number (e .reason)) (place-name (e .place)) (e .page .page) l m) (sym x) ∙ ap (λ (l : List ℕ). line (number (e .reason)) (place-name (e .place)) (e .page .page) (e .other) l) d)))
 
 pub returns-in-None : need.returns-in-None

@@ -7,7 +7,7 @@ use lib.ListN.{length, set}
 use Rattle.image.specs.Images.{mark, image-medium}
 use Rattle.image.specs.Steps.{Overwritten}
 use Rattle.image.proofs.Tables.{image-shape, pages-are}
-use Rattle.image.proofs.Changes.{marked, kept-on, data-put}
+use Rattle.image.proofs.Changes.{marked, kept-on, data-put, data-stored}
 use Rattle.image.proofs.drive.ImageDrive.put_data.Needs as need
 
 pub index-self-n : need.index-self-n
@@ -59,4 +59,9 @@ returns c =
     let v = c .data-mended .result in
     let us = set ws (3 + 264 * n + p) v in
     let a = subst (λ (k : ℕ). Overwritten (2 + 8 * n + 256 * p) k d us vs) full (c .overwrite .ensures .words) in
-    ap (λ o. image-medium o vs) (c .overwrite .ensures .on) ∙ data-put (c .args .self .now .on) ws vs n p v d (c .pre .image) e (c .pre .inside) full (c .data-mended .ensures) a
+    let sh = image-shape ws (c .pre .image) in
+    record {
+      words = data-stored ws vs n p v d e (c .data-mended .ensures) full (omega (arith, sh .long, e, c .pre .inside)) a;
+      on = c .overwrite .ensures .on;
+      medium = ap (λ o. image-medium o vs) (c .overwrite .ensures .on) ∙ data-put (c .args .self .now .on) ws vs n p v d (c .pre .image) e (c .pre .inside) full (c .data-mended .ensures) a;
+    }

@@ -7,7 +7,7 @@ use lib.ListN.{length, set}
 use Rattle.image.specs.Images.{mark, image-medium}
 use Rattle.image.specs.Steps.{Overwritten}
 use Rattle.image.proofs.Tables.{image-shape, pages-are}
-use Rattle.image.proofs.Changes.{mark-small, marked, kept-on, label-put}
+use Rattle.image.proofs.Changes.{mark-small, marked, kept-on, label-put, label-stored}
 use Rattle.image.proofs.drive.ImageDrive.put_label.Needs as need
 
 pub index-self-n : need.index-self-n
@@ -56,4 +56,9 @@ returns c =
     let v = c .label-mended .result in
     let us = set ws (3 + 264 * n + p) v in
     let a = subst (λ (xs : List ℕ). Overwritten (1 + 8 * p) (length xs) xs us vs) (c .to-words-new .ensures) (c .overwrite .ensures .words) in
-    ap (λ o. image-medium o vs) (c .overwrite .ensures .on) ∙ label-put (c .args .self .now .on) ws vs n p v (c .args .label) (c .pre .image) e (c .pre .inside) (c .label-mended .ensures) a
+    let sh = image-shape ws (c .pre .image) in
+    record {
+      words = label-stored ws vs n p v (c .args .label) e (c .label-mended .ensures) (omega (arith, sh .long, e, c .pre .inside)) a;
+      on = c .overwrite .ensures .on;
+      medium = ap (λ o. image-medium o vs) (c .overwrite .ensures .on) ∙ label-put (c .args .self .now .on) ws vs n p v (c .args .label) (c .pre .image) e (c .pre .inside) (c .label-mended .ensures) a;
+    }
