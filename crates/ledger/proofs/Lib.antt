@@ -1,3 +1,4 @@
 pub mod Running
 pub mod Freeing
 pub mod Framing
+pub mod Planning

@@ -1,0 +1,4 @@
+pub mod Runs
+pub mod Marks
+pub mod Tables
+pub mod Searches
