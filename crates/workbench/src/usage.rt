@@ -6,7 +6,7 @@ pub const USAGE: &str = "workbench: tells what stands on the pages of an Alto di
   workbench table IMAGE             the survey in plain numbers, a line a page:
                                     PAGE VERDICT LEADER VERSION SERIAL1 SERIAL2 NUMBER
   workbench map IMAGE               a row of 24 characters a cylinder
-  workbench map IMAGE --file PAGE   the same, with the pages of the file of that leader in order
+  workbench map IMAGE --file PAGE   the same, with the pages of the file that PAGE is in, in order
   workbench help                    this text
 
 IMAGE is the file of a pack image. No command alters it. A command that fails says why in one line
