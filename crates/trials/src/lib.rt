@@ -6,6 +6,8 @@ mod building;
 #[cfg(test)]
 mod coding;
 #[cfg(test)]
+mod counts;
+#[cfg(test)]
 mod drives;
 #[cfg(test)]
 mod labels;
