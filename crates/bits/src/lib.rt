@@ -1,4 +1,6 @@
 // The bit table of a pack: one bit a page, 0 where the page is free.
+#![tactic(auto)]
+
 ghost use Rattle.std.specs.Prelude.{◌≡◌, ◌-◌, ◌<◌, ◌≤◌, min, ◌&&◌, ltb, if◌then◌else◌, ◌==◌, nat_lt};
 ghost use Rattle.std.specs.Option.{option_map};
 ghost use Rattle.bits.specs.Bits.{page_bit, taken, freed, none_free, first_free, round_free, start_page, ones_in, zeros_in, Run, BitLaws};

@@ -1,5 +1,5 @@
 -- Refusals: their numbers, and what is printed of them.
-use Rattle.std.specs.Prelude.{ℕ, List, [], ◌∷◌, ◌++◌, Some, None, codes, decimal, Option}
+use Rattle.std.specs.Prelude.{ℕ, List, [], ◌++◌, Some, None, codes, decimal, Option}
 use Rattle.disk.specs.declared.address.PageAddress.{PageAddress}
 use Rattle.disk.specs.declared.refusal.Reason.{Reason}
 use Rattle.disk.specs.declared.refusal.Reason.TheVariants.{TooSmall, TooBig, BadParameter, Hardware, BadState, BadName, NoSuchEntry, BadFile, PageNotFull, PageNumberTooSmall, BadDiskAddress, Exists, TooMany, NoFreePage, Rivals, LabelNotFree}

@@ -1,4 +1,6 @@
 // The words of the disk format, and what a page, a reader and a drive mean.
+#![tactic(auto)]
+
 mod address;
 mod cylinders;
 mod drive;

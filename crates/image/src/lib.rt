@@ -1,4 +1,6 @@
 // A pack kept in words: the image of a disk, a reader and a drive over it.
+#![tactic(auto)]
+
 mod coding;
 mod drive;
 mod layout;

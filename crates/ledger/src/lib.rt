@@ -1,5 +1,7 @@
 // Lists of planned writes, and what a run of them does to a drive; what files a pack holds, what each
 // call is to write, and what a pack owes its user after a power failure.
+#![tactic(auto)]
+
 mod book;
 mod frame;
 mod free;

@@ -1,4 +1,6 @@
 // A drive laid over a reader: what is written stays in the drive, and never goes below.
+#![tactic(auto)]
+
 ghost use Rattle.std.specs.Prelude.{◌≡◌, ◌≤◌, true, false, ◌&&◌, [], length, if◌then◌else◌, Ok, Err, nat_lt};
 ghost use Rattle.disk.specs.Refusals.{hardware};
 ghost use Rattle.disk.specs.Media.{label_at, data_at, label_write, data_write, Written, spun_up};

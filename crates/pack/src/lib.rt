@@ -1,4 +1,6 @@
 // A pack in a drive: its record, claims on free pages, and format.
+#![tactic(auto)]
+
 mod claim;
 mod fresh;
 mod links;

@@ -1,4 +1,6 @@
 // Tests of packs over image drives and overlays, from outside their crates.
+#![tactic(auto)]
+
 #[cfg(test)]
 mod building;
 #[cfg(test)]

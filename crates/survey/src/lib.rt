@@ -1,4 +1,6 @@
 // Which page belongs to which file.
+#![tactic(auto)]
+
 mod call;
 mod count;
 mod pairs;

@@ -1,4 +1,6 @@
 // Tests of the disk format, of images, of overlays, surveys and packs, each from outside its crate.
+#![tactic(auto)]
+
 #[cfg(test)]
 mod addresses;
 #[cfg(test)]

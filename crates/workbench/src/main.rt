@@ -1,4 +1,6 @@
 // The program: images of Alto disk packs.
+#![tactic(auto)]
+
 mod load;
 mod make;
 mod map;

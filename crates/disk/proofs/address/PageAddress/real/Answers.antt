@@ -1,4 +1,4 @@
-use Rattle.std.proofs.Common.{arith, rules}
+use Rattle.std.proofs.Common.{rules}
 use Rattle.disk.specs.Addresses.{real_address}
 use Rattle.disk.proofs.Naming.{conversion}
 use Rattle.disk.proofs.address.PageAddress.real.Goals as goal

@@ -1,5 +1,4 @@
-use Rattle.std.proofs.Common.{arith, rules}
-use Rattle.std.proofs.lemmas.Bool.Decides.{nat_tests}
+use Rattle.std.proofs.Common.{rules}
 use Rattle.disk.specs.Addresses.{page_named}
 use Rattle.disk.proofs.Naming.{conversion}
 use Rattle.disk.proofs.address.RealAddress.page.Goals as goal
