@@ -23,7 +23,7 @@ refused w on later ws vs h e t = go on (ltb w.page (24 * cylinders_in ws)) (is_i
     go true true true x y n s = absurd (true≢false n)
     go true true false x y n s =
         inr (record {
-          goes = record { on = refl; inside = omega (arith, length_pages ws, ltb-true w.page (24 * cylinders_in ws) x); keeps = search rules; rests = λ h. search rules };
+          goes = record { on = refl; inside = omega (arith, length_pages ws, ltb-true w.page (24 * cylinders_in ws) x) };
           not_steady = y;
           torn = torn_none (pages_in ws) (pages_in vs) w.page w.part (ap pages_in e);
           is = ap (λ o. image_medium o vs) s ∙ ap (λ us. record { cylinders = cylinders_in us; pages = pages_in vs; on = false; steady = is_image us }) e;
@@ -54,7 +54,7 @@ let_through on later p ws vs h e s =
 
 pub went : (w : Write) (on later last : Bool) (ws vs us : List ℕ) → Through on later w.page ws vs → vs ≡ ws → image_medium last us ≡ after w (image_medium later vs) → Went w (image_medium on ws) (image_medium last us)
 went w on later last ws vs us l e m =
-    record { goes = record { on = l.was_on; inside = l.inside; keeps = search rules; rests = λ h. search rules }; is = m ∙ ap (λ x. after w x) (same_medium later on vs ws l.same_on e) }
+    record { goes = record { on = l.was_on; inside = l.inside }; is = m ∙ ap (λ x. after w x) (same_medium later on vs ws l.same_on e) }
 
 -- The one result, where the write is refused and where it is let through.
 pub exactly_refused : (w : Write) (on later : Bool) (ws vs : List ℕ) (e : Refusal) → goes_through on ws w.page ≡ false → vs ≡ ws → later ≡ stays_on on ws w.page → e ≡ hardware w.page → Exactly w on ws (Err e) later vs

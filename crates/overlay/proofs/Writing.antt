@@ -62,7 +62,7 @@ went w m ss ts on o h room_left t =
     let new : laid ts m.pages ≡ put (laid ss m.pages) w.page w.part = ap (λ us. laid us m.pages) t ∙ laid_stored ss m.pages w.page w.part h in
     record {
       rule = record {
-        goes = record { on = o; inside = inside; keeps = search rules; rests = λ h. search rules };
+        goes = record { on = o; inside = inside };
         is = ap (λ ps. record { cylinders = m.cylinders; pages = ps; on = on; steady = false }) new;
       };
       exactly = record {
@@ -86,7 +86,7 @@ full w m ss ts on e o h no_room t k =
       rule = (
         k,
         inr (record {
-          goes = record { on = o; inside = inside; keeps = search rules; rests = λ h. search rules };
+          goes = record { on = o; inside = inside };
           not_steady = refl;
           torn = torn_old (laid ss m.pages) (laid ts m.pages) w.page w.part (ap (λ us. laid us m.pages) t);
           is = refl;

@@ -8,4 +8,4 @@ pub returns : goal.returns
 returns c =
     let w = c.args.w in
     let k = c.args.k in
-    subst (Run w k) (sym (c.leading-ones.ensures ∙ ap (count_leading_zeros 16) (filled w k (omega arith) c.requires))) (run_of w k (omega arith) c.requires)
+    subst (Run w k) (sym (c.leading_ones.ensures ∙ ap (count_leading_zeros 16) (filled w k (omega arith) c.requires))) (run_of w k (omega arith) c.requires)

@@ -9,8 +9,8 @@ pub loop-w-init : goal.loop-w-init
 unfolding ones_in
 loop-w-init c = (omega arith, refl)
 
-pub overflow-add-n : goal.overflow-add-n
-overflow-add-n c = let o : ones (get_or c.args.self.now.words c.loop-w.w-index 0) ≤ 16 = ones-le 16 _ (search rules) in omega arith
+pub overflow_add-n : goal.overflow_add-n
+overflow_add-n c = let o : ones (get_or c.args.self.now.words c.loop-w.w-index 0) ≤ 16 = ones-le 16 _ (search rules) in omega arith
 
 pub loop-w-preserved : goal.loop-w-preserved
 unfolding ones_in

@@ -18,11 +18,11 @@ returns-then-words-n-ge2 c =
     sym (data_near c.args.words.now c.pages-n.result c.args.page (sym c.requires.opened ∙ c.if-not-opened.false) (c.pages-n.ensures ∙ count_by c.args.words.now _ _ c.requires.opened c.if-not-opened.false c.requires.size) (omega arith)
     ∙ data_hidden c.args.words.now c.pages-n.result c.args.page c.if-words-n-ge2.true)
 
-pub data-from-requires : goal.data-from-requires
-data-from-requires c = omega (arith, length_by c.args.words.now c.args.opened c.args.cylinders.count c.requires.opened c.if-not-opened.false c.requires.size)
+pub data_from-requires : goal.data_from-requires
+data_from-requires c = omega (arith, length_by c.args.words.now c.args.opened c.args.cylinders.count c.requires.opened c.if-not-opened.false c.requires.size)
 
 pub returns : goal.returns
 returns c =
-    ap (λ x. Some x) c.data-from.ensures
+    ap (λ x. Some x) c.data_from.ensures
     ∙ sym (data_near c.args.words.now c.pages-n.result c.args.page (sym c.requires.opened ∙ c.if-not-opened.false) (c.pages-n.ensures ∙ count_by c.args.words.now _ _ c.requires.opened c.if-not-opened.false c.requires.size) (omega arith)
     ∙ data_seen c.args.words.now c.pages-n.result c.args.page c.if-words-n-ge2.false)

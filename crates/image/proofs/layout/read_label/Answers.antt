@@ -18,8 +18,8 @@ returns-then-words-n-eq1 c =
     sym (label_near c.args.words.now c.pages-n.result c.args.page (sym c.requires.opened ∙ c.if-not-opened.false) (c.pages-n.ensures ∙ count_by c.args.words.now _ _ c.requires.opened c.if-not-opened.false c.requires.size) (omega arith)
     ∙ label_hidden c.args.words.now c.pages-n.result c.args.page c.if-words-n-eq1.true)
 
-pub label-from-requires : goal.label-from-requires
-label-from-requires c = omega (arith, length_by c.args.words.now c.args.opened c.args.cylinders.count c.requires.opened c.if-not-opened.false c.requires.size)
+pub label_from-requires : goal.label_from-requires
+label_from-requires c = omega (arith, length_by c.args.words.now c.args.opened c.args.cylinders.count c.requires.opened c.if-not-opened.false c.requires.size)
 
 pub returns : goal.returns
 returns c =

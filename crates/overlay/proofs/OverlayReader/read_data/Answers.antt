@@ -22,8 +22,8 @@ returns-in-Some g c = record {
 
 pub returns-in-None : goal.returns-in-None
 returns-in-None g c = record {
-  answer = data_below (held c.args.self.now.table) (g.R.Reader.medium c.args.self.now.below).pages c.args.at.page _ (ltb-true _ _ (sym c.has.ensures ∙ c.if-not-has.false)) c.in-None.ensures c.read-data.ensures.answer;
-  same = ap (λ m. overlay_medium (held c.args.self.now.table) m c.args.self.now.on) c.read-data.ensures.same;
+  answer = data_below (held c.args.self.now.table) (g.R.Reader.medium c.args.self.now.below).pages c.args.at.page _ (ltb-true _ _ (sym c.has.ensures ∙ c.if-not-has.false)) c.in-None.ensures c.read_data.ensures.answer;
+  same = ap (λ m. overlay_medium (held c.args.self.now.table) m c.args.self.now.on) c.read_data.ensures.same;
   held = refl;
-  below = c.read-data.ensures.same;
+  below = c.read_data.ensures.same;
 }

@@ -22,8 +22,8 @@ returns-in-Some g c = record {
 
 pub returns-in-None : goal.returns-in-None
 returns-in-None g c = record {
-  answer = label_below (held c.args.self.now.table) (g.R.Reader.medium c.args.self.now.below).pages c.args.at.page _ (ltb-true _ _ (sym c.has.ensures ∙ c.if-not-has.false)) c.in-None.ensures c.read-label.ensures.answer;
-  same = ap (λ m. overlay_medium (held c.args.self.now.table) m c.args.self.now.on) c.read-label.ensures.same;
+  answer = label_below (held c.args.self.now.table) (g.R.Reader.medium c.args.self.now.below).pages c.args.at.page _ (ltb-true _ _ (sym c.has.ensures ∙ c.if-not-has.false)) c.in-None.ensures c.read_label.ensures.answer;
+  same = ap (λ m. overlay_medium (held c.args.self.now.table) m c.args.self.now.on) c.read_label.ensures.same;
   held = refl;
-  below = c.read-label.ensures.same;
+  below = c.read_label.ensures.same;
 }

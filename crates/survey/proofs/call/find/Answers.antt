@@ -20,47 +20,44 @@ returns-in-Some g c =
     let low : Lowest ps c.in-Some.one.page c.in-Some.two.page =
     pair_lowest ps (length ps) c.scan-count.result c.args.table.now c.scan-count.new.table c.scan-count.new.leaders c.in-Some.one.page c.in-Some.two.page c.scan-count.ensures.scanned c.scan-count.ensures.listed (omega arith) c.in-Some.ensures in
     record {
-      answer = ap {B = Result Totals Refusal} Err c.of-two.ensures ∙ answer_rivals (page_named m.cylinders) ps c.args.table.now room c.in-Some.one.page c.in-Some.two.page low;
+      answer = ap {B = Result Totals Refusal} Err c.of_two.ensures ∙ answer_rivals (page_named m.cylinders) ps c.args.table.now room c.in-Some.one.page c.in-Some.two.page low;
       table = c.clear.ensures ∙ (ap (λ (k : ℕ). replicate k no_record ++ drop k c.scan-count.new.table) n
           ∙ (ap (λ (ts : List Record). replicate (length ps) no_record ++ ts) (scanned_rest ps (length ps) c.args.table.now c.scan-count.new.table (omega arith) c.scan-count.ensures.scanned)
           ∙ table_rivals (page_named m.cylinders) ps c.args.table.now room c.in-Some.one.page c.in-Some.two.page low));
       same = c.scan-count.ensures.same;
     }
 
-none : (g : given.Over) (c : goal.After-leaders-4·1 g) → rivalled (g.R.Reader.medium c.args.reader.now).pages ≡ 0
-none g c =
-    let ps : List Page = (g.R.Reader.medium c.args.reader.now).pages in
-    no_pair ps (length ps) c.scan-count.result c.args.table.now c.scan-count.new.table c.scan-count.new.leaders c.scan-count.ensures.scanned c.scan-count.ensures.listed (omega arith) c.in-default.ensures
-
-pub walk-all-requires : goal.walk-all-requires
-walk-all-requires g c =
+pub walk_all-requires : goal.walk_all-requires
+walk_all-requires g c =
     let same = c.scan-count.ensures.same in
     let long = ap (λ (x : Medium). length x.pages) same in
     let few = c.scan-count.ensures.listed.few in
-    (omega arith, (omega arith, (λ j h. ap (λ (x : Medium). is_leader x.pages (get_or c.scan-count.new.leaders j 0)) same ∙ c.scan-count.ensures.listed.leader j h, ap (λ (x : Medium). rivalled x.pages) same ∙ none g c)))
+    let ps : List Page = (g.R.Reader.medium c.args.reader.now).pages in
+    let none : rivalled ps ≡ 0 = no_pair ps (length ps) c.scan-count.result c.args.table.now c.scan-count.new.table c.scan-count.new.leaders c.scan-count.ensures.scanned c.scan-count.ensures.listed (omega arith) c.in_default.ensures in
+    (omega arith, (omega arith, (λ j h. ap (λ (x : Medium). is_leader x.pages (get_or c.scan-count.new.leaders j 0)) same ∙ c.scan-count.ensures.listed.leader j h, ap (λ (x : Medium). rivalled x.pages) same ∙ none)))
 
 pub returns : goal.returns
 returns g c =
     let m : Medium = g.R.Reader.medium c.args.reader.now in
     let ps : List Page = m.pages in
     let old = c.args.table.now in
-    let new = c.walk-all.new.table in
+    let new = c.walk_all.new.table in
     let same = c.scan-count.ensures.same in
     let room : length ps ≤ length old = omega arith in
     let n : c.pages-n.result ≡ length ps = omega arith in
     let name = page_named m.cylinders in
-    let nil : rivalled ps ≡ 0 = no_pair ps (length ps) c.scan-count.result old c.scan-count.new.table c.scan-count.new.leaders c.scan-count.ensures.scanned c.scan-count.ensures.listed (omega arith) c.in-default.ensures in
+    let nil : rivalled ps ≡ 0 = no_pair ps (length ps) c.scan-count.result old c.scan-count.new.table c.scan-count.new.leaders c.scan-count.ensures.scanned c.scan-count.ensures.listed (omega arith) c.in_default.ensures in
     let w : Walked name ps c.scan-count.result c.scan-count.new.leaders old c.scan-count.new.table new =
     record {
       none = nil;
       scanned = c.scan-count.ensures.scanned;
       listed = c.scan-count.ensures.listed;
-      marked = subst (λ (x : Medium). MarkedAll (page_named x.cylinders) x.pages c.scan-count.new.leaders c.scan-count.result c.scan-count.new.table new) same c.walk-all.ensures.marked;
+      marked = subst (λ (x : Medium). MarkedAll (page_named x.cylinders) x.pages c.scan-count.new.leaders c.scan-count.result c.scan-count.new.table new) same c.walk_all.ensures.marked;
       long = omega arith;
       room = room;
     } in
     record {
       answer = answer_found name ps old room c.total.result nil (c.total.ensures ∙ (ap (λ (k : ℕ). totals (take k new)) n ∙ totals_filled name ps c.scan-count.result c.scan-count.new.leaders old c.scan-count.new.table new w));
       table = table_filled name ps c.scan-count.result c.scan-count.new.leaders old c.scan-count.new.table new w ∙ table_found name ps old room nil;
-      same = c.walk-all.ensures.same ∙ same;
+      same = c.walk_all.ensures.same ∙ same;
     }

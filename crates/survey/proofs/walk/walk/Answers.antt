@@ -9,8 +9,8 @@ use Rattle.survey.proofs.walk.walk.Goals as goal
 
 pub bounds-table-at : goal.bounds-table-at
 bounds-table-at g c =
-    let m : Medium = g.R.Reader.medium c.read-label.new.self in
-    let same = ap (λ (x : Medium). length x.pages) c.read-label.ensures.same in
+    let m : Medium = g.R.Reader.medium c.read_label.new.self in
+    let same = ap (λ (x : Medium). length x.pages) c.read_label.ensures.same in
     let h = in_table (page_named c.cylinders-cylinders.result.count) m.pages c.args.leader.page c.chain.at.page.page c.chain.at.label c.args.table.now c.chain.table c.chain.invariant.1 in
     omega arith
 
@@ -18,22 +18,22 @@ pub returns-in-None : goal.returns-in-None
 returns-in-None g c =
     let m : Medium = g.R.Reader.medium c.args.reader.now in
     record {
-      same = c.next-link.ensures.same ∙ (c.chain.invariant.0 ∙ c.read-label.ensures.same);
+      same = c.next_link.ensures.same ∙ (c.chain.invariant.0 ∙ c.read_label.ensures.same);
       marked = turn_end m (g.R.Reader.medium c.chain.reader) c.args.leader.page c.chain.at.page.page c.cylinders-cylinders.result.count c.chain.at.label c.args.table.now c.chain.table c.filed.result
           (record {
             count = c.cylinders-cylinders.ensures.count;
-            same = c.chain.invariant.0 ∙ c.read-label.ensures.same;
+            same = c.chain.invariant.0 ∙ c.read_label.ensures.same;
             leader = c.requires.1;
             room = omega arith;
-            walking = subst (λ (x : Medium). Walking (page_named c.cylinders-cylinders.result.count) x.pages c.args.leader.page c.chain.at.page.page c.chain.at.label c.args.table.now c.chain.table) c.read-label.ensures.same c.chain.invariant.1;
+            walking = subst (λ (x : Medium). Walking (page_named c.cylinders-cylinders.result.count) x.pages c.args.leader.page c.chain.at.page.page c.chain.at.label c.args.table.now c.chain.table) c.read_label.ensures.same c.chain.invariant.1;
             made = c.filed.ensures;
           })
           c.in-None.ensures.answer;
     }
 
-turn : (g : given.Over) (c : goal.In-Some-next-link g) → Turn (g.R.Reader.medium c.read-label.new.self) (g.R.Reader.medium c.chain.reader) c.args.leader.page c.chain.at.page.page c.cylinders-cylinders.result.count c.chain.at.label c.args.table.now c.chain.table c.filed.result
+turn : (g : given.Over) (c : goal.In-Some-next_link g) → Turn (g.R.Reader.medium c.read_label.new.self) (g.R.Reader.medium c.chain.reader) c.args.leader.page c.chain.at.page.page c.cylinders-cylinders.result.count c.chain.at.label c.args.table.now c.chain.table c.filed.result
 turn g c =
-    let same = c.read-label.ensures.same in
+    let same = c.read_label.ensures.same in
     let long = ap (λ (x : Medium). length x.pages) same in
     record {
       count = c.cylinders-cylinders.ensures.count ∙ ap (λ (x : Medium). x.cylinders) (sym same);
@@ -45,7 +45,7 @@ turn g c =
     }
 
 pub chain-smaller : goal.chain-smaller
-chain-smaller g c = turn_less (g.R.Reader.medium c.read-label.new.self) (g.R.Reader.medium c.chain.reader) c.args.leader.page c.chain.at.page.page c.cylinders-cylinders.result.count c.chain.at.label c.in-Some-next-link.link c.args.table.now c.chain.table c.filed.result (turn g c) c.in-Some-next-link.ensures.answer
+chain-smaller g c = turn_less (g.R.Reader.medium c.read_label.new.self) (g.R.Reader.medium c.chain.reader) c.args.leader.page c.chain.at.page.page c.cylinders-cylinders.result.count c.chain.at.label c.in-Some-next_link.link c.args.table.now c.chain.table c.filed.result (turn g c) c.in-Some-next_link.ensures.answer
 
 pub chain-preserved : goal.chain-preserved
-chain-preserved g c = (c.next-link.ensures.same ∙ c.chain.invariant.0, turn_on (g.R.Reader.medium c.read-label.new.self) (g.R.Reader.medium c.chain.reader) c.args.leader.page c.chain.at.page.page c.cylinders-cylinders.result.count c.chain.at.label c.in-Some-next-link.link c.args.table.now c.chain.table c.filed.result (turn g c) c.in-Some-next-link.ensures.answer)
+chain-preserved g c = (c.next_link.ensures.same ∙ c.chain.invariant.0, turn_on (g.R.Reader.medium c.read_label.new.self) (g.R.Reader.medium c.chain.reader) c.args.leader.page c.chain.at.page.page c.cylinders-cylinders.result.count c.chain.at.label c.in-Some-next_link.link c.args.table.now c.chain.table c.filed.result (turn g c) c.in-Some-next_link.ensures.answer)

@@ -19,16 +19,16 @@ bounds-self-n-2 c =
     let n = pages_are ws c.args.self.now.cylinders.count c.pages-n.result c.requires.image c.args.self.now.size c.pages-n.ensures in
     omega (arith, s.long, n, c.requires.inside)
 
-pub invariant-of-self : goal.invariant-of-self
-invariant-of-self c =
+pub invariant_of-self : goal.invariant_of-self
+invariant_of-self c =
     let ws = c.args.self.now.words.now in
     let n = c.pages-n.result in
     let p = c.args.page in
     let e = pages_are ws c.args.self.now.cylinders.count n c.requires.image c.args.self.now.size c.pages-n.ensures in
-    let v = c.data-mended.result in
-    let small : v ≤ 3 = omega (arith, c.data-mended.ensures) in
+    let v = c.data_mended.result in
+    let small : v ≤ 3 = omega (arith, c.data_mended.ensures) in
     let s = marked ws n p v c.requires.image e small in
-    (kept_on c.args.self.now.opened ws _ c.args.self.now.kept c.requires.image s, (c.args.self.now.size ∙ sym s.size, tt))
+    record { kept = kept_on c.args.self.now.opened ws _ c.args.self.now.kept c.requires.image s; size = c.args.self.now.size ∙ sym s.size }
 
 pub overwrite-requires : goal.overwrite-requires
 overwrite-requires c =
@@ -36,8 +36,8 @@ overwrite-requires c =
     let n = c.pages-n.result in
     let p = c.args.page in
     let e = pages_are ws c.args.self.now.cylinders.count n c.requires.image c.args.self.now.size c.pages-n.ensures in
-    let v = c.data-mended.result in
-    let small : v ≤ 3 = omega (arith, c.data-mended.ensures) in
+    let v = c.data_mended.result in
+    let small : v ≤ 3 = omega (arith, c.data_mended.ensures) in
     let full : length c.args.«data».now ≡ 256 = search rules in
     let s = marked ws n p v c.requires.image e small in
     record { image = s.image; inside = inr (omega (arith, s.first, e), omega (arith, s.first, e, c.requires.inside, full)) }
@@ -51,12 +51,12 @@ returns c =
     let d = c.args.«data».now in
     let e = pages_are ws c.args.self.now.cylinders.count n c.requires.image c.args.self.now.size c.pages-n.ensures in
     let full : length d ≡ 256 = search rules in
-    let v = c.data-mended.result in
+    let v = c.data_mended.result in
     let us = set ws (3 + 264 * n + p) v in
     let a = subst (λ (k : ℕ). Overwritten (2 + 8 * n + 256 * p) k d us vs) full c.overwrite.ensures.words in
     let sh = image_shape ws c.requires.image in
     record {
-      words = data_stored ws vs n p v d e c.data-mended.ensures full (omega (arith, sh.long, e, c.requires.inside)) a;
+      words = data_stored ws vs n p v d e c.data_mended.ensures full (omega (arith, sh.long, e, c.requires.inside)) a;
       on = c.overwrite.ensures.on;
-      medium = ap (λ o. image_medium o vs) c.overwrite.ensures.on ∙ data_put c.args.self.now.on ws vs n p v d c.requires.image e c.requires.inside full c.data-mended.ensures a;
+      medium = ap (λ o. image_medium o vs) c.overwrite.ensures.on ∙ data_put c.args.self.now.on ws vs n p v d c.requires.image e c.requires.inside full c.data_mended.ensures a;
     }

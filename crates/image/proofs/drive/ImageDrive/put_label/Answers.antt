@@ -19,16 +19,16 @@ bounds-self-n-2 c =
     let n = pages_are ws c.args.self.now.cylinders.count c.pages-n.result c.requires.image c.args.self.now.size c.pages-n.ensures in
     omega (arith, s.long, n, c.requires.inside)
 
-pub invariant-of-self : goal.invariant-of-self
-invariant-of-self c =
+pub invariant_of-self : goal.invariant_of-self
+invariant_of-self c =
     let ws = c.args.self.now.words.now in
     let n = c.pages-n.result in
     let p = c.args.page in
     let e = pages_are ws c.args.self.now.cylinders.count n c.requires.image c.args.self.now.size c.pages-n.ensures in
-    let v = c.label-mended.result in
-    let small : v ≤ 3 = omega (arith, c.label-mended.ensures, mark_small ws n p c.requires.image e) in
+    let v = c.label_mended.result in
+    let small : v ≤ 3 = omega (arith, c.label_mended.ensures, mark_small ws n p c.requires.image e) in
     let s = marked ws n p v c.requires.image e small in
-    (kept_on c.args.self.now.opened ws _ c.args.self.now.kept c.requires.image s, (c.args.self.now.size ∙ sym s.size, tt))
+    record { kept = kept_on c.args.self.now.opened ws _ c.args.self.now.kept c.requires.image s; size = c.args.self.now.size ∙ sym s.size }
 
 pub overwrite-requires : goal.overwrite-requires
 overwrite-requires c =
@@ -36,10 +36,10 @@ overwrite-requires c =
     let n = c.pages-n.result in
     let p = c.args.page in
     let e = pages_are ws c.args.self.now.cylinders.count n c.requires.image c.args.self.now.size c.pages-n.ensures in
-    let v = c.label-mended.result in
-    let small : v ≤ 3 = omega (arith, c.label-mended.ensures, mark_small ws n p c.requires.image e) in
+    let v = c.label_mended.result in
+    let small : v ≤ 3 = omega (arith, c.label_mended.ensures, mark_small ws n p c.requires.image e) in
     let s = marked ws n p v c.requires.image e small in
-    record { image = s.image; inside = inl (omega arith, omega (arith, s.first, c.requires.inside, ap length c.to-words-new.ensures)) }
+    record { image = s.image; inside = inl (omega arith, omega (arith, s.first, c.requires.inside, ap length c.to_words-new.ensures)) }
 
 pub returns : goal.returns
 returns c =
@@ -48,12 +48,12 @@ returns c =
     let n = c.pages-n.result in
     let p = c.args.page in
     let e = pages_are ws c.args.self.now.cylinders.count n c.requires.image c.args.self.now.size c.pages-n.ensures in
-    let v = c.label-mended.result in
+    let v = c.label_mended.result in
     let us = set ws (3 + 264 * n + p) v in
-    let a = subst (λ (xs : List ℕ). Overwritten (1 + 8 * p) (length xs) xs us vs) c.to-words-new.ensures c.overwrite.ensures.words in
+    let a = subst (λ (xs : List ℕ). Overwritten (1 + 8 * p) (length xs) xs us vs) c.to_words-new.ensures c.overwrite.ensures.words in
     let sh = image_shape ws c.requires.image in
     record {
-      words = label_stored ws vs n p v c.args.label e c.label-mended.ensures (omega (arith, sh.long, e, c.requires.inside)) a;
+      words = label_stored ws vs n p v c.args.label e c.label_mended.ensures (omega (arith, sh.long, e, c.requires.inside)) a;
       on = c.overwrite.ensures.on;
-      medium = ap (λ o. image_medium o vs) c.overwrite.ensures.on ∙ label_put c.args.self.now.on ws vs n p v c.args.label c.requires.image e c.requires.inside c.label-mended.ensures a;
+      medium = ap (λ o. image_medium o vs) c.overwrite.ensures.on ∙ label_put c.args.self.now.on ws vs n p v c.args.label c.requires.image e c.requires.inside c.label_mended.ensures a;
     }

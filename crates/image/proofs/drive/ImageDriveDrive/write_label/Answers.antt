@@ -9,8 +9,8 @@ returns-then-not-admit c = record {
   exactly = exactly_refused (label_write c.args.at.page c.args.label) c.args.self.now.on c.admit.new.self.on c.args.self.now.words.now c.admit.new.self.words.now c.new.result (sym c.admit.ensures.answer ∙ c.if-not-admit.true) c.admit.ensures.words c.admit.ensures.on c.new.ensures;
 }
 
-pub put-label-requires : goal.put-label-requires
-put-label-requires c =
+pub put_label-requires : goal.put_label-requires
+put_label-requires c =
     let l = let_through c.args.self.now.on c.admit.new.self.on c.args.at.page c.args.self.now.words.now c.admit.new.self.words.now (sym c.admit.ensures.answer ∙ c.if-not-admit.false) c.admit.ensures.words c.admit.ensures.on in
     record { image = l.image; inside = l.below }
 
@@ -18,6 +18,6 @@ pub returns : goal.returns
 returns c =
     let l = let_through c.args.self.now.on c.admit.new.self.on c.args.at.page c.args.self.now.words.now c.admit.new.self.words.now (sym c.admit.ensures.answer ∙ c.if-not-admit.false) c.admit.ensures.words c.admit.ensures.on in
     record {
-      rule = went (label_write c.args.at.page c.args.label) c.args.self.now.on c.admit.new.self.on c.put-label.new.self.on c.args.self.now.words.now c.admit.new.self.words.now c.put-label.new.self.words.now l c.admit.ensures.words c.put-label.ensures.medium;
-      exactly = exactly_went (label_write c.args.at.page c.args.label) c.args.self.now.on c.admit.new.self.on c.put-label.new.self.on c.args.self.now.words.now c.admit.new.self.words.now c.put-label.new.self.words.now (sym c.admit.ensures.answer ∙ c.if-not-admit.false) c.admit.ensures.words c.admit.ensures.on c.put-label.ensures.on c.put-label.ensures.words;
+      rule = went (label_write c.args.at.page c.args.label) c.args.self.now.on c.admit.new.self.on c.put_label.new.self.on c.args.self.now.words.now c.admit.new.self.words.now c.put_label.new.self.words.now l c.admit.ensures.words c.put_label.ensures.medium;
+      exactly = exactly_went (label_write c.args.at.page c.args.label) c.args.self.now.on c.admit.new.self.on c.put_label.new.self.on c.args.self.now.words.now c.admit.new.self.words.now c.put_label.new.self.words.now (sym c.admit.ensures.answer ∙ c.if-not-admit.false) c.admit.ensures.words c.admit.ensures.on c.put_label.ensures.on c.put_label.ensures.words;
     }
