@@ -7,7 +7,7 @@ use Rattle.pack.proofs.fresh.new_bits.Goals as goal
 
 pub loop-page-init : goal.loop-page-init
 unfolding free_all
-loop-page-init c = c.none-free-bits.ensures
+loop-page-init c = c.none_free-bits.ensures
 
 pub loop-page-preserved : goal.loop-page-preserved
 loop-page-preserved c =

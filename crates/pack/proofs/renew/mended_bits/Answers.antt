@@ -8,23 +8,23 @@ use Rattle.ledger.specs.Mends.{ends_free}
 use Rattle.pack.specs.Linking.{freed_in}
 use Rattle.pack.proofs.Renewing.{freed_more, freed_left}
 use Rattle.pack.proofs.renew.mended_bits.Goals as goal
-use Rattle.pack.proofs.renew.mended_bits.Goals.{then-ends-free, else-ends-free}
+use Rattle.pack.proofs.renew.mended_bits.Goals.{then-ends_free, else-ends_free}
 
 pub loop-page-init : goal.loop-page-init
 unfolding free_all
-loop-page-init c = c.none-free-bits.ensures
+loop-page-init c = c.none_free-bits.ensures
 
 pub loop-page-preserved : goal.loop-page-preserved
 loop-page-preserved c =
     let ts = c.args.table.now in
     let p : ℕ = c.loop-page.page in
     let ws = c.loop-page.bits.words in
-    elim c.if-ends-free.branch [
-      | then-ends-free w ↦
+    elim c.if-ends_free.branch [
+      | then-ends_free w ↦
           ap (λ (b : BitTable). b.words) w.bits-is ∙ (w.free.ensures ∙ (cond-true (ltb p 9744) (freed ws p) ws (lt-ltb p 9744 (omega arith))
-          ∙ (ap (λ (xs : List ℕ). freed xs p) c.loop-page.invariant ∙ sym (freed_more ts none_free p (omega arith) (sym c.ends_free.ensures ∙ w.if-ends-free.true)))))
-      | else-ends-free w ↦
-          ap (λ (b : BitTable). b.words) w.bits-is ∙ (c.loop-page.invariant ∙ ap (λ (ps : List ℕ). free_all ps none_free) (sym (freed_left ts p (omega arith) (sym c.ends_free.ensures ∙ w.if-ends-free.false))))
+          ∙ (ap (λ (xs : List ℕ). freed xs p) c.loop-page.invariant ∙ sym (freed_more ts none_free p (omega arith) (sym c.ends_free.ensures ∙ w.if-ends_free.true)))))
+      | else-ends_free w ↦
+          ap (λ (b : BitTable). b.words) w.bits-is ∙ (c.loop-page.invariant ∙ ap (λ (ps : List ℕ). free_all ps none_free) (sym (freed_left ts p (omega arith) (sym c.ends_free.ensures ∙ w.if-ends_free.false))))
     ]
 
 pub returns : goal.returns

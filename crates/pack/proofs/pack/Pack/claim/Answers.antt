@@ -7,18 +7,18 @@ use Rattle.pack.specs.Claims.{claim_record}
 use Rattle.pack.proofs.Claiming.{few, claimed_answer, claimed_record}
 use Rattle.pack.proofs.pack.Pack.claim.Goals as goal
 
-pub returns-then-has-free-label : goal.returns-then-has-free-label
-returns-then-has-free-label g c =
+pub returns-then-has_free_label : goal.returns-then-has_free_label
+returns-then-has_free_label g c =
     let ps : List Page = (g.D.Reader.medium c.args.self.now.drive).pages in
     let k : PackRecord = c.args.self.now.kept in
     let n : ℕ = length ps in
     let p : ℕ = c.in-Some.page.page in
     let e : Some p ≡ searched k c.args.start.page n = few k.bits.words c.args.start.page n c.pages-pages.result (Some p) (omega arith) (omega arith) c.in-Some.ensures in
-    let f : free_label_at (label_at ps p) ≡ true = sym c.has-free-label.ensures.answer ∙ c.if-has-free-label.true in
-    let l : PackRecord = c.has-free-label.new.self.kept in
-    let w : c.take.new.self.words ≡ cond (ltb p 9744) (taken k.bits.words p) k.bits.words = c.take.ensures ∙ ap (λ (x : PackRecord). cond (ltb p 9744) (taken x.bits.words p) x.bits.words) c.has-free-label.ensures.kept in
+    let f : free_label_at (label_at ps p) ≡ true = sym c.has_free_label.ensures.answer ∙ c.if-has_free_label.true in
+    let l : PackRecord = c.has_free_label.new.self.kept in
+    let w : c.take.new.self.words ≡ cond (ltb p 9744) (taken k.bits.words p) k.bits.words = c.take.ensures ∙ ap (λ (x : PackRecord). cond (ltb p 9744) (taken x.bits.words p) x.bits.words) c.has_free_label.ensures.kept in
     record {
       answer = claimed_answer ps k c.args.start.page n p e f;
-      kept = ap (λ (x : PackRecord). record { ready = x.ready; highest = x.highest; bits = c.take.new.self }) c.has-free-label.ensures.kept ∙ claimed_record ps k c.args.start.page n p c.take.new.self.words e f (omega arith) w;
-      same = c.has-free-label.ensures.same;
+      kept = ap (λ (x : PackRecord). record { ready = x.ready; highest = x.highest; bits = c.take.new.self }) c.has_free_label.ensures.kept ∙ claimed_record ps k c.args.start.page n p c.take.new.self.words e f (omega arith) w;
+      same = c.has_free_label.ensures.same;
     }

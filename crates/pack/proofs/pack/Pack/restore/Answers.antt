@@ -22,7 +22,7 @@ mend-requires g c =
     let name = page_named m.cylinders in
     let same : t ≡ m = c.survey.ensures.same in
     let room : length m.pages ≤ length c.args.table.now = omega arith in
-    let a : Answered name m.pages c.in-ok-totals.totals = answered name m.pages (length c.args.table.now) c.in-ok-totals.totals room c.in-ok-totals.ensures.answer in
+    let a : Answered name m.pages c.in_ok-totals.totals = answered name m.pages (length c.args.table.now) c.in_ok-totals.totals room c.in_ok-totals.ensures.answer in
     record {
       room = let k = ap (λ (x : Medium). length x.pages) same in omega arith;
       filled = subst (λ (x : Medium). Filled (page_named x.cylinders) x.pages c.survey.new.table) (sym same) (filled name m.pages c.args.table.now c.survey.new.table room a.none c.survey.ensures.table);
@@ -41,14 +41,14 @@ returns-in-Ok g c =
     let name = page_named m.cylinders in
     let same = c.survey.ensures.same in
     let room : length m.pages ≤ length c.args.table.now = omega arith in
-    let a : Answered name m.pages c.in-ok-totals.totals = answered name m.pages (length c.args.table.now) c.in-ok-totals.totals room c.in-ok-totals.ensures.answer in
-    let l : PackRecord = record { ready = true; highest = c.largest-serial-highest.result; bits = c.mended-bits-bits.result } in
+    let a : Answered name m.pages c.in_ok-totals.totals = answered name m.pages (length c.args.table.now) c.in_ok-totals.totals room c.in_ok-totals.ensures.answer in
+    let l : PackRecord = record { ready = true; highest = c.largest_serial-highest.result; bits = c.mended_bits-bits.result } in
     record {
-      done = planned m k (Ok c.in-ok-totals.totals) t l a.none (
+      done = planned m k (Ok c.in_ok-totals.totals) t l a.none (
         a.is,
         (
           subst (λ (x : Medium). Through (mend_writes (page_named x.cylinders) real_address x.pages) x t) same c.in-Ok.ensures,
-          record_is name m.pages c.args.table.now c.survey.new.table room a.none c.survey.ensures.table c.args.pages c.largest-serial-highest.result c.mended-bits-bits.result c.requires.size c.requires.some c.largest-serial-highest.ensures c.mended-bits-bits.ensures,
+          record_is name m.pages c.args.table.now c.survey.new.table room a.none c.survey.ensures.table c.args.pages c.largest_serial-highest.result c.mended_bits-bits.result c.requires.size c.requires.some c.largest_serial-highest.ensures c.mended_bits-bits.ensures,
         ),
       );
       table = c.survey.ensures.table;
@@ -63,10 +63,10 @@ returns-in-Err g c =
     let name = page_named m.cylinders in
     let same = c.survey.ensures.same in
     let room : length m.pages ≤ length c.args.table.now = omega arith in
-    let a : Answered name m.pages c.in-ok-totals.totals = answered name m.pages (length c.args.table.now) c.in-ok-totals.totals room c.in-ok-totals.ensures.answer in
-    let kept : c.survey.new.self.kept ≡ k = c.in-ok-totals.ensures.kept in
+    let a : Answered name m.pages c.in_ok-totals.totals = answered name m.pages (length c.args.table.now) c.in_ok-totals.totals room c.in_ok-totals.ensures.answer in
+    let kept : c.survey.new.self.kept ≡ k = c.in_ok-totals.ensures.kept in
     record {
       done = planned m k (Err e) t c.unready-self.result a.none
           (subst (λ (x : Medium). Stopped (mend_writes (page_named x.cylinders) real_address x.pages) x e t) same c.in-Err.ensures, c.unready-self.ensures ∙ ap unready kept);
-      table = c.clear-records.ensures ∙ (ap (λ (n : ℕ). cleared n c.survey.new.table) (sym c.requires.size) ∙ cleared_again name m.pages c.args.table.now c.survey.new.table room a.none c.survey.ensures.table (omega arith));
+      table = c.clear_records.ensures ∙ (ap (λ (n : ℕ). cleared n c.survey.new.table) (sym c.requires.size) ∙ cleared_again name m.pages c.args.table.now c.survey.new.table room a.none c.survey.ensures.table (omega arith));
     }

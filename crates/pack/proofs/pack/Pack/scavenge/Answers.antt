@@ -27,7 +27,7 @@ by_plan m s k room r t l e h d =
 pub returns : goal.returns
 returns g c =
     let m : Medium = g.D.Reader.medium c.args.self.now.drive in
-    let s : Medium = g.D.Reader.medium c.spin-up.new.self in
+    let s : Medium = g.D.Reader.medium c.spin_up.new.self in
     let k : PackRecord = c.args.self.now.kept in
     let t : Medium = g.D.Reader.medium c.restore.new.self.drive in
     let l : PackRecord = c.restore.new.self.kept in
@@ -36,10 +36,10 @@ returns g c =
     let count : z.count ≡ m.cylinders = c.cylinders.ensures.count in
     let size : Sized m = record { least = (let a = z.fits in omega arith); most = (let a = z.fits in omega arith); pages = (let a = c.cylinders.ensures.pages in omega arith) } in
     let conv = conversion m.cylinders size.most in
-    let d : Scavenged m k room c.restore.result t l = by_plan m s k room c.restore.result t l c.spin-up.ensures (omega arith) c.restore.ensures.done in
+    let d : Scavenged m k room c.restore.result t l = by_plan m s k room c.restore.result t l c.spin_up.ensures (omega arith) c.restore.ensures.done in
     record {
       done = d;
-      table = subst (λ (x : Medium). c.restore.new.table ≡ scavenge_table (page_named x.cylinders) x.pages c.args.table.now c.restore.result) c.spin-up.ensures c.restore.ensures.table;
+      table = subst (λ (x : Medium). c.restore.new.table ≡ scavenge_table (page_named x.cylinders) x.pages c.args.table.now c.restore.result) c.spin_up.ensures c.restore.ensures.table;
       value = scavenge_value m k room size conv c.restore.result t l d;
       through = through_or_off m k room size conv c.restore.result t l d;
       files = nothing_lost m k room size conv c.restore.result t l d;
