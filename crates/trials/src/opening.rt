@@ -13,11 +13,12 @@ fn opened(words: &[u16]) -> Result<u16, Refusal> {
     }
 }
 
+fn refused() -> Result<u16, Refusal> {
+    Err(Refusal::new(Reason::BadParameter, Place::Image, at(0)))
+}
+
 fn check_refused(rt: &impl Abort, words: &[u16]) -> Result<(), Fail> {
-    assert_eq!(rt;
-        opened(words),
-        Err(Refusal::new(Reason::BadParameter, Place::Image, at(0)))
-    );
+    assert_eq!(rt; opened(words), refused());
     Ok(())
 }
 
@@ -40,7 +41,7 @@ fn other_numbers_of_pages_are_refused(rt: HostRuntime) -> Result<(), Fail> {
     let counts = [0, 1, 23, 25, 47, 9768];
     for count in counts {
         let words = free_pack(rt.alloc(), count)?;
-        check_refused(&rt, &words).note(format_args!("{count} pages"))?;
+        assert_eq!(rt; opened(&words), refused(), "{count} pages");
     }
     Ok(())
 }
@@ -95,7 +96,7 @@ fn wrong_counts_and_marks_are_refused(rt: HostRuntime) -> Result<(), Fail> {
     for change in changes {
         let mut words = free_pack(rt.alloc(), ONE)?;
         put(&mut words, change.place, change.word);
-        check_refused(&rt, &words).note(format_args!("place {}", change.place))?;
+        assert_eq!(rt; opened(&words), refused(), "place {}", change.place);
     }
     Ok(())
 }

@@ -72,32 +72,39 @@ fn totals(numbers: [u16; 5]) -> Totals {
     }
 }
 
-fn check_told(rt: &impl Abort, table: &[Record], told: Told) {
-    assert!(rt; told.page < table.len());
+fn check_told(rt: &impl Abort, table: &[Record], told: Told, i: usize) {
+    assert!(rt; told.page < table.len(), "case {i}");
     let record = table[told.page];
-    assert_eq!(rt; record.verdict, told.verdict, "page {}", told.page);
+    assert_eq!(rt;
+        record.verdict,
+        told.verdict,
+        "case {i}, page {}",
+        told.page
+    );
     assert_eq!(rt;
         (record.leader.page, record.number),
-        (told.leader, told.number)
+        (told.leader, told.number),
+        "case {i}, page {}",
+        told.page
     );
 }
 
-fn check_case(rt: &impl Abort, heap: Global, case: Case) -> Result<(), Fail> {
+fn check_case(rt: &impl Abort, heap: Global, case: Case, i: usize) -> Result<(), Fail> {
     let mut words = placed_pack(heap, &case.placed)?;
     put_mark(&mut words, ONE, 9, case.mark);
     let mut table = [junk(); 24];
     let answer = survey(&mut ImageReader::new(&words), &mut table);
-    assert_eq!(rt; answer, Ok(totals(case.totals)));
-    assert_eq!(rt; table[0], Record::bare(Verdict::Reserved));
+    assert_eq!(rt; answer, Ok(totals(case.totals)), "case {i}");
+    assert_eq!(rt; table[0], Record::bare(Verdict::Reserved), "case {i}");
     for told in case.told {
-        check_told(rt, &table, told);
+        check_told(rt, &table, told, i);
     }
     Ok(())
 }
 
 fn check_cases(rt: &impl Abort, heap: Global, cases: &[Case]) -> Result<(), Fail> {
     for (i, case) in cases.iter().enumerate() {
-        check_case(rt, heap, *case).note(format_args!("case {i}"))?;
+        check_case(rt, heap, *case, i)?;
     }
     Ok(())
 }
@@ -294,7 +301,7 @@ fn check_moved(rt: &impl Abort, heap: Global, pages: [u16; 4]) -> Result<(), Fai
     let mut table = [junk(); 24];
     let answer = survey(&mut ImageReader::new(&words), &mut table);
     assert_eq!(rt; answer, Ok(totals([1, 19, 3, 1, 0])));
-    check_told(rt, &table, stray(d as usize, 1));
+    check_told(rt, &table, stray(d as usize, 1), 0);
     assert_eq!(rt; page_of(&table, a, 0), Some(a as usize));
     assert_eq!(rt; page_of(&table, a, 1), Some(b as usize));
     assert_eq!(rt; page_of(&table, a, 2), Some(c as usize));

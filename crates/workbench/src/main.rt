@@ -19,6 +19,7 @@ use output::{Output, is_same_path, output_of, word_at};
 use pages::show_pages;
 use problem::Problem;
 use std::env;
+use std::process::ExitCode;
 use store::{Replace, check_apart, check_place, store};
 use survey_text::{show_survey, show_table};
 use usage::USAGE;
@@ -196,12 +197,15 @@ fn obey(rt: &HostRuntime, words: &[String]) -> Result<(), Failed> {
     }
 }
 
-fn main(rt: HostRuntime) -> Result<(), Failed> {
+fn main(rt: HostRuntime) -> ExitCode {
     match asked(&rt) {
-        Ok(words) => obey(&rt, words.as_slice()),
+        Ok(words) => match obey(&rt, words.as_slice()) {
+            Ok(()) => ExitCode::SUCCESS,
+            Err(Failed) => ExitCode::FAILURE,
+        },
         Err(problem) => {
             let _ = eprintln!(rt; "{problem}: the command line");
-            Err(Failed)
+            ExitCode::FAILURE
         }
     }
 }
