@@ -19,10 +19,10 @@ abbrev pub with_bits : PackRecord → List ℕ → PackRecord
 with_bits k ws = record { ready = k.ready; highest = k.highest; bits = record { words = ws } }
 
 abbrev pub with_taken : PackRecord → ℕ → PackRecord
-with_taken k p = with_bits k (taken k.bits.words p)
+with_taken k p = record { ready = k.ready; highest = k.highest; bits = record { words = taken k.bits.words p } }
 
 abbrev pub with_freed : PackRecord → ℕ → PackRecord
-with_freed k p = with_bits k (freed k.bits.words p)
+with_freed k p = record { ready = k.ready; highest = k.highest; bits = record { words = freed k.bits.words p } }
 
 abbrev pub with_all_freed : PackRecord → List ℕ → PackRecord
 with_all_freed k ps = with_bits k (free_all ps k.bits.words)

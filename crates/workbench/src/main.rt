@@ -77,6 +77,11 @@ fn told(rt: &HostRuntime, res: Result<(), Problem>, path: &str) -> Result<(), Fa
     }
 }
 
+// Runs a command, and says in one line why it failed, if it did.
+fn attempt(rt: &HostRuntime, command: Command, path: &str) -> Result<(), Failed> {
+    told(rt, run(rt, command, path), path)
+}
+
 // The command line is none that the program knows.
 fn unknown(rt: &HostRuntime) -> Result<(), Failed> {
     let _ = rt.eprint(USAGE);
@@ -94,13 +99,13 @@ fn obey_tell(rt: &HostRuntime, words: &[String]) -> Result<(), Failed> {
     if words.len() == 2 {
         if let Some(command) = command_of(words[0].as_str()) {
             let path = words[1].as_str();
-            return told(rt, run(rt, command, path), path);
+            return attempt(rt, command, path);
         }
     }
     if words.len() == 4 && words[0].as_str() == "map" && words[2].as_str() == "--file" {
         if let Some(page) = number_at(words, 3) {
             let path = words[1].as_str();
-            return told(rt, show_map(rt, path, Some(page)), path);
+            return attempt(rt, Command::Map(Some(page)), path);
         }
     }
     unknown(rt)

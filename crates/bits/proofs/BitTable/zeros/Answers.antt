@@ -15,7 +15,6 @@ unfolding zeros_in
 loop-w-preserved c =
     let m = sum_by_more (λ w. 16 - ones w) c.args.self.now.words c.loop-w.w-index 0 (search rules) in
     let z = zeros_of (get_or c.args.self.now.words c.loop-w.w-index 0) (search rules) in
-    let v = c.count_zeros-n.ensures.value in
     (omega arith, omega arith)
 
 pub returns : goal.returns
