@@ -1,14 +1,14 @@
 -- Writes that change no chain: the proofs.
-use Rattle.std.proofs.Common.{◌≡◌, ℕ, zero, suc, ◌+◌, ◌/◌, ◌%◌, ◌<◌, ◌≤◌, Bool, true, false, cond, not, ◌&&◌, eqb, ltb, leb, ◌⊎◌, List, [], ◌∷◌, length, get_or, set, Some, None, Option, sym, refl, ap, ◌∙◌, subst, inl, inr, ⊎_elim, arith, length-set}
+use Rattle.std.proofs.Common.{◌≡◌, ℕ, zero, suc, ◌+◌, ◌<◌, ◌≤◌, Bool, true, false, cond, ◌&&◌, eqb, ltb, ◌⊎◌, List, [], ◌∷◌, length, set, Some, None, Option, sym, refl, ap, ◌∙◌, subst, inl, inr, arith}
 use Rattle.std.proofs.lemmas.Bool.{cases_eq, cases_lt}
-use Rattle.std.proofs.lemmas.List.{get_or-set_same, get_or-set_other, get_or_past}
+use Rattle.std.proofs.lemmas.List.{get_or-set_same, get_or-set_other}
 use Rattle.disk.specs.declared.label.Label.{Label}
-use Rattle.disk.specs.Labels.{is_file, is_free, free_label, random_mark, id_of}
-use Rattle.disk.specs.Media.{Page, label_at, data_at, put, a_label, a_data, Part, unreadable}
+use Rattle.disk.specs.Labels.{is_file, free_label}
+use Rattle.disk.specs.Media.{Page, label_at, put, a_label, a_data, Part, unreadable}
 use Rattle.survey.specs.Chains.{Naming, leads, is_leader, kept_if, points, joins, same_id, follower, chain, rest}
 use Rattle.survey.specs.Laws.{In, Leader}
 use Rattle.survey.proofs.Walks.{Links}
-use Rattle.survey.proofs.Following.{never, not_true, kept_some, file_plain, links, rest_is, next_in_chain, leader_from, leader_is, has_label}
+use Rattle.survey.proofs.Following.{file_plain, links, rest_is, next_in_chain, leader_is, has_label}
 use Rattle.ledger.specs.Frames.{with_previous, SameChains, Unchained, Unnamed, FrameLaws}
 
 -- What stands on a page after a write.

@@ -1,12 +1,12 @@
 -- A scavenge that is cut: each label is the old one or the mended one.
-use Rattle.std.proofs.Common.{◌≡◌, ℕ, zero, suc, ◌+◌, ◌-◌, ◌<◌, ◌≤◌, Bool, true, false, cond, ◌⊎◌, List, [], ◌∷◌, ◌++◌, length, Some, None, Option, sym, refl, ap, ◌∙◌, subst, inl, inr, ⊎_elim, arith}
+use Rattle.std.proofs.Common.{◌≡◌, ℕ, zero, suc, ◌-◌, Bool, true, false, cond, ◌⊎◌, List, [], ◌∷◌, ◌++◌, length, Some, None, Option, sym, ap, ◌∙◌, subst, inl, inr, ⊎_elim, arith}
 use Rattle.std.specs.List.{range_with_len}
 use Rattle.disk.specs.declared.label.Label.{Label}
 use Rattle.disk.specs.declared.refusal.Refusal.{Refusal}
 use Rattle.disk.specs.Labels.{words_of}
-use Rattle.disk.specs.Media.{Page, Medium, Write, label_at, label_write, put, a_label, Torn}
+use Rattle.disk.specs.Media.{Page, Medium, Write, label_at, label_write}
 use Rattle.survey.specs.Chains.{Naming}
-use Rattle.ledger.specs.Runs.{Through, Stopped, applied, SecondStopped}
+use Rattle.ledger.specs.Runs.{Stopped, applied, SecondStopped}
 use Rattle.ledger.specs.Mends.{same_words, relabelling, mended_label, mend_at, gathered, mend_writes}
 use Rattle.ledger.proofs.Running.{stopped_parts, through_whole, refused_torn}
 use Rattle.ledger.proofs.Mending.{Between}

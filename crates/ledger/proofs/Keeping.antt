@@ -1,12 +1,11 @@
 -- A mended pack is in order, its record fits it, and it holds the same files.
-use Rattle.std.proofs.Common.{◌≡◌, ℕ, zero, suc, ◌+◌, ◌-◌, ◌*◌, ◌<◌, ◌≤◌, max, Bool, true, false, cond, not, ◌&&◌, eqb, ltb, leb, ◌⊎◌, List, [], ◌∷◌, ◌++◌, map, length, get_or, Some, None, filter, Option, sym, refl, ap, ◌∙◌, subst, inl, inr, ⊎_elim, add-one, arith}
+use Rattle.std.proofs.Common.{◌≡◌, ℕ, zero, suc, ◌+◌, ◌-◌, ◌*◌, ◌<◌, ◌≤◌, Bool, true, false, cond, ltb, ◌⊎◌, List, [], ◌∷◌, ◌++◌, length, get_or, Some, None, filter, Option, sym, refl, ap, ◌∙◌, subst, inl, inr, ⊎_elim, add-one, arith}
 use Rattle.std.specs.List.{range_with_len}
-use Rattle.std.proofs.lemmas.Bool.{cases_eq, cases_lt, lt-ltb, ltb-true, le-ltb, eqb-true, eq-eqb, ne_eqb, and_parts, and_from}
+use Rattle.std.proofs.lemmas.Bool.{cases_eq, cases_lt, lt-ltb, ltb-true, le-ltb}
 use Rattle.std.proofs.lemmas.List.{get_or_past}
 use Rattle.disk.specs.declared.label.Label.{Label}
-use Rattle.disk.specs.declared.label.FileId.{FileId}
 use Rattle.disk.specs.Labels.{is_file, is_free, free_label, id_of, serial_number}
-use Rattle.disk.specs.Media.{Page, Write, label_at, data_at}
+use Rattle.disk.specs.Media.{Page, Write, label_at}
 use Rattle.bits.specs.Bits.{page_bit, free_all, none_free}
 use Rattle.bits.specs.Bits as bits_in
 use Rattle.bits.proofs.Tables as tables
@@ -14,24 +13,21 @@ use Rattle.survey.specs.declared.table.Record.{Record}
 use Rattle.survey.specs.declared.table.Verdict.{Verdict}
 use Rattle.survey.specs.declared.table.Verdict.TheVariants.{Reserved, Free, Chained, Stray, Aside}
 use Rattle.survey.specs.Chains.{Naming, is_leader, follower, chain, rest, pages_above, leader_of, rivalled}
-use Rattle.survey.specs.Verdicts.{verdict_number, bare, filed, owned, judged, record_by, record_of, table_of}
-use Rattle.survey.specs.Laws.{In, Leader, InOneChain}
+use Rattle.survey.specs.Verdicts.{verdict_number, bare, filed, owned, record_of, table_of}
+use Rattle.survey.specs.Laws.{In}
 use Rattle.survey.proofs.Walks.{Links, links_at}
 use Rattle.survey.proofs.Following.{never, not_true, links, leader_from, leader_is, has_label, follows, member, Member, file_not_free}
-use Rattle.survey.proofs.Leading.{tested, Led, leader_of_is}
+use Rattle.survey.proofs.Leading.{tested}
 use Rattle.survey.specs.Steps.{no_record}
 use Rattle.survey.proofs.Lawful as lawful
 use Rattle.survey.proofs.Finding as finding
 use Rattle.survey.proofs.Marking as marking
-use Rattle.ledger.specs.declared.kept.PackRecord.{PackRecord}
-use Rattle.ledger.specs.Runs.{applied}
 use Rattle.ledger.specs.Mends.{is_chained, page_after, page_before, page_or_none, relinked, mended_label, relabelling, mend_at, gathered, mend_writes, ends_free, serial_if, largest_serial, pages_freed, mended_record}
-use Rattle.ledger.specs.Searches.{free_label_at}
 use Rattle.ledger.specs.States.{LinkedBothWays, InOrder, bit_for, KeptState}
 use Rattle.ledger.specs.Scavenges.{Mended, SameFiles}
-use Rattle.ledger.proofs.Mending.{Names, Between, mended_chained, mended_free, mended_none, mended_nought, chained_led, led_chained, leader_chained, chained_member, chained_on, chains_kept, leaders_kept, chain_kept, follower_kept, read_kept}
-use Rattle.ledger.proofs.Salvage.{one_before, before_is, before_leader, leader_of_kept, chained_kept, after_kept, before_kept, rivals_kept, located_kept, files_kept, entries_kept}
-use Rattle.ledger.proofs.Restoring.{AllMended, all_mended, mended_between, relabelling_same}
+use Rattle.ledger.proofs.Mending.{Names, Between, mended_chained, mended_free, mended_none, mended_nought, chained_led, led_chained, chained_member, chains_kept, leaders_kept, chain_kept}
+use Rattle.ledger.proofs.Salvage.{before_is, before_leader, chained_kept, after_kept, before_kept, rivals_kept, located_kept, files_kept, entries_kept}
+use Rattle.ledger.proofs.Restoring.{AllMended, mended_between, relabelling_same}
 
 -- Nothing to write where each page has the label that it is to have.
 gathered_none : (f : ℕ → List Write) (xs : List ℕ) → ((p : ℕ) → f p ≡ []) → gathered f xs ≡ []

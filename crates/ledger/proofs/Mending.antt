@@ -1,18 +1,15 @@
 -- Pages some of whose labels are mended, and all others as they were: no chain is another.
-use Rattle.std.proofs.Common.{◌≡◌, ℕ, zero, suc, ◌+◌, ◌-◌, ◌<◌, ◌≤◌, Bool, true, false, cond, not, ◌&&◌, eqb, ltb, leb, ◌⊎◌, List, [], ◌∷◌, ◌++◌, map, length, get_or, set, Some, None, Option, sym, refl, ap, ◌∙◌, subst, inl, inr, ⊎_elim, arith, length-set}
-use Rattle.std.specs.List.{range_with_len}
-use Rattle.std.proofs.lemmas.Bool.{cases_eq, cases_lt, lt-ltb, ltb-true, le-ltb, eqb-true, eq-eqb, ne_eqb, and_parts, and_from}
+use Rattle.std.proofs.Common.{◌≡◌, ℕ, ◌+◌, ◌<◌, ◌≤◌, Bool, true, false, cond, ◌&&◌, eqb, ltb, ◌⊎◌, List, length, Some, None, Option, sym, refl, ap, ◌∙◌, inl, inr, ⊎_elim}
+use Rattle.std.proofs.lemmas.Bool.{cases_lt, lt-ltb, ltb-true, le-ltb}
 use Rattle.disk.specs.declared.label.Label.{Label}
-use Rattle.disk.specs.declared.label.FileId.{FileId}
-use Rattle.disk.specs.Labels.{is_file, is_free, free_label, random_mark, id_of}
-use Rattle.disk.specs.Media.{Page, label_at, data_at, unreadable}
-use Rattle.survey.specs.Chains.{Naming, leads, is_leader, kept_if, points, joins, same_id, follower, chain, rest, is_in, first_of, pages_above, leader_of, rivalled, rival_of}
-use Rattle.survey.specs.Laws.{In, Leader, Follows}
-use Rattle.survey.proofs.Walks.{Links, Steps, rise}
-use Rattle.survey.proofs.Following.{never, not_true, kept_some, kept_from, file_plain, file_not_free, links, rest_is, next_in_chain, leader_from, leader_is, has_label, follows, follower_from, member, Member, number, id_at, one_id, chain_steps}
-use Rattle.survey.proofs.Leading.{tested, Led, leader_of_is, leader_of_there, leader_only, one_leader, Rival, rivalled_there, rivalled_is}
+use Rattle.disk.specs.Labels.{is_file, free_label}
+use Rattle.disk.specs.Media.{Page, label_at, data_at}
+use Rattle.survey.specs.Chains.{Naming, leads, is_leader, kept_if, points, joins, same_id, follower, chain, leader_of}
+use Rattle.survey.specs.Laws.{Follows}
+use Rattle.survey.proofs.Following.{never, not_true, kept_some, kept_from, file_plain, next_in_chain, leader_from, leader_is, has_label, follows, member, Member}
+use Rattle.survey.proofs.Leading.{tested, Led, leader_of_is, leader_of_there}
 use Rattle.ledger.specs.Frames.{SameChains}
-use Rattle.ledger.specs.Mends.{is_chained, page_after, page_before, page_or_none, relinked, mended, mended_label}
+use Rattle.ledger.specs.Mends.{is_chained, page_after, page_before, page_or_none, relinked, mended_label}
 use Rattle.ledger.proofs.Framing.{chain_same}
 
 -- What is used of the naming of n pages.

@@ -1,20 +1,18 @@
 -- The record and the verdicts of a new pack.
-use Rattle.std.proofs.Common.{◌≡◌, ℕ, zero, suc, ◌+◌, ◌-◌, ◌*◌, ◌<◌, ◌≤◌, max, Bool, true, false, cond, ltb, ◌⊎◌, List, [], ◌∷◌, ◌++◌, map, length, get_or, is_ok, Some, None, Ok, Err, filter, Option, Result, sym, refl, ap, ◌∙◌, subst, inl, inr, ⊎_elim, arith}
+use Rattle.std.proofs.Common.{◌≡◌, ℕ, zero, suc, ◌+◌, ◌-◌, ◌<◌, ◌≤◌, Bool, true, false, cond, ◌⊎◌, List, [], ◌∷◌, map, length, get_or, is_ok, Ok, Err, filter, Result, sym, refl, ap, ◌∙◌, subst, inl, inr, ⊎_elim, arith}
 use Rattle.std.specs.List.{range_with_len}
 use Rattle.std.proofs.lemmas.Bool.{cases_eq, lt-ltb}
 use Rattle.std.proofs.lemmas.List.FromFn.{length-map-range_with_len, get_or-map-range_with_len}
-use Rattle.disk.specs.declared.label.Label.{Label}
 use Rattle.disk.specs.declared.refusal.Refusal.{Refusal}
 use Rattle.disk.specs.Addresses.{page_named, real_address}
-use Rattle.disk.specs.Labels.{id_of, serial_number, free_label}
+use Rattle.disk.specs.Labels.{free_label}
 use Rattle.disk.specs.Media.{Page, Medium, label_at}
-use Rattle.bits.specs.Bits.{free_all, none_free}
 use Rattle.survey.specs.declared.table.Record.{Record}
 use Rattle.survey.specs.declared.table.Totals.{Totals}
 use Rattle.survey.specs.declared.table.Verdict.{Verdict}
-use Rattle.survey.specs.declared.table.Verdict.TheVariants.{Reserved, Free, Chained, Stray, Aside}
-use Rattle.survey.specs.Chains.{Naming, pages_above, leader_of}
-use Rattle.survey.specs.Verdicts.{bare, filed, record_of, table_of, totals, counted, none}
+use Rattle.survey.specs.declared.table.Verdict.TheVariants.{Reserved, Free, Chained}
+use Rattle.survey.specs.Chains.{Naming}
+use Rattle.survey.specs.Verdicts.{bare, filed, record_of, table_of, totals, counted}
 use Rattle.survey.specs.Steps.{no_record}
 use Rattle.survey.proofs.Following.{never, not_true}
 use Rattle.ledger.specs.declared.kept.PackRecord.{PackRecord}
@@ -29,7 +27,7 @@ use Rattle.ledger.specs.News.{NewPack, new_totals}
 use Rattle.ledger.proofs.Running.{through_whole, length_applied}
 use Rattle.ledger.proofs.Keeping.{largest_least}
 use Rattle.ledger.proofs.Formatting.{Fresh, formatted}
-use Rattle.ledger.proofs.Opening.{large, leader_of_none, leader_of_1, leader_of_2, kept_state, opens}
+use Rattle.ledger.proofs.Opening.{large, leader_of_1, leader_of_2, kept_state, opens}
 
 largest_most : (rs : List Record) (b : ℕ) (d : Record) → ((p : ℕ) → p < length rs → serial_if (get_or rs p d).verdict (get_or rs p d).id ≤ b) → largest_serial rs ≤ b
 largest_most [] b d h = omega arith

@@ -1,12 +1,11 @@
 -- What comes of the pages that a format leaves: they are in order, the record fits, no file is there.
-use Rattle.std.proofs.Common.{◌≡◌, ℕ, zero, suc, ◌+◌, ◌-◌, ◌<◌, ◌≤◌, Bool, true, false, not, ◌&&◌, eqb, ltb, ◌⊎◌, List, [], ◌∷◌, map, length, get_or, replicate, is_ok, Some, None, Ok, Err, Option, Result, sym, refl, ap, ◌∙◌, subst, inl, inr, ⊎_elim, arith}
+use Rattle.std.proofs.Common.{◌≡◌, ℕ, zero, suc, ◌+◌, ◌-◌, ◌<◌, ◌≤◌, Bool, true, false, not, ◌&&◌, eqb, ltb, ◌⊎◌, List, [], ◌∷◌, map, length, get_or, replicate, Some, None, Option, sym, refl, ap, ◌∙◌, subst, inl, inr, ⊎_elim, arith}
 use Rattle.std.specs.List.{range_with_len}
 use Rattle.std.proofs.lemmas.Bool.{cases_eq, cases_lt, lt-ltb, le-ltb, and_right, and_left, and_from, ne_eqb}
 use Rattle.disk.specs.declared.label.Label.{Label}
-use Rattle.disk.specs.declared.refusal.Refusal.{Refusal}
 use Rattle.disk.specs.Addresses.{page_named, real_address}
 use Rattle.disk.specs.Labels.{free_label, is_file, id_of, serial_number}
-use Rattle.disk.specs.Media.{Page, Medium, label_at, Write}
+use Rattle.disk.specs.Media.{Page, label_at, Write}
 use Rattle.disk.proofs.Naming.{conversion}
 use Rattle.bits.specs.Bits.{page_bit, none_free, In as Listed}
 use Rattle.bits.proofs.Tables.{free_all_in, free_all_out, none_free_bit, none_free_length}
@@ -18,17 +17,12 @@ use Rattle.survey.specs.Laws.{In, Leader, InOneChain}
 use Rattle.survey.proofs.Following.{not_true, follower_from, rest_is, leader_is, leader_from, has_label}
 use Rattle.survey.proofs.Leading.{first_is, first_none, Led, leader_of_is, leader_only, rivalled_is}
 use Rattle.survey.proofs.Lawful.{led_chained, chained_led, survey_laws}
-use Rattle.ledger.specs.declared.kept.PackRecord.{PackRecord}
-use Rattle.ledger.specs.Plans.{Done}
-use Rattle.ledger.specs.Runs.{applied, whole}
-use Rattle.ledger.specs.Formats.{directory_leader_label, directory_page_label, format_writes, new_free, new_record, format_plan}
+use Rattle.ledger.specs.Formats.{directory_leader_label, directory_page_label, new_free, new_record}
 use Rattle.ledger.specs.Mends.{is_chained, page_after, page_before, mended_label, mend_at, gathered, mend_writes}
 use Rattle.ledger.specs.Ledgers.{is_directory, counts, file_at, files, entries, ledger_of}
 use Rattle.ledger.specs.States.{LinkedBothWays, InOrder, bit_for, KeptState}
-use Rattle.ledger.specs.Books.{opening, Sized}
-use Rattle.ledger.specs.News.{NewPack}
-use Rattle.ledger.proofs.Running.{length_applied, through_whole}
-use Rattle.ledger.proofs.Formatting.{Fresh, formatted}
+use Rattle.ledger.specs.Books.{opening}
+use Rattle.ledger.proofs.Formatting.{Fresh}
 
 -- Lists.
 gathered_none : (f : ℕ → List Write) (a n : ℕ) → ((p : ℕ) → a ≤ p → p < a + n → f p ≡ []) → gathered f (range_with_len a n) ≡ []

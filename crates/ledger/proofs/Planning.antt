@@ -1,12 +1,12 @@
 -- A plan on a steady drive is a value.
-use Rattle.std.proofs.Common.{◌≡◌, ℕ, zero, suc, ◌+◌, ◌-◌, ◌<◌, ◌≤◌, true, List, map, length, Ok, Err, Result, refl, ap, ◌∙◌, arith}
+use Rattle.std.proofs.Common.{ℕ, zero, suc, ◌+◌, ◌-◌, ◌<◌, ◌≤◌, map, length, Ok, Err, Result, refl, ap, arith}
 use Rattle.std.specs.List.{range_with_len, AllByRecursion as All}
 use Rattle.std.proofs.ByRecursion.{All-append}
 use Rattle.disk.specs.declared.refusal.Refusal.{Refusal}
 use Rattle.disk.specs.Media.{Medium, spun_up}
 use Rattle.ledger.specs.declared.kept.PackRecord.{PackRecord}
 use Rattle.ledger.specs.Runs.{Inside, freeing, freed_all}
-use Rattle.ledger.specs.Plans.{Plan, refuses, writes, Done, Planned, answer_of}
+use Rattle.ledger.specs.Plans.{Plan, refuses, writes, Done, Planned}
 use Rattle.ledger.specs.Formats.{directory_writes, format_writes, format_plan, FormatValue}
 use Rattle.ledger.proofs.Running.{through_whole, steady_on}
 

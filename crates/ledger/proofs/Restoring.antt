@@ -1,21 +1,19 @@
 -- A scavenge that goes through: the pages after all of its writes.
-use Rattle.std.proofs.Common.{◌≡◌, ℕ, zero, suc, ◌+◌, ◌-◌, ◌<◌, ◌≤◌, Bool, true, false, cond, not, ◌&&◌, eqb, ltb, leb, ◌⊎◌, List, [], ◌∷◌, ◌++◌, map, length, get_or, set, Some, None, Option, sym, refl, ap, ◌∙◌, subst, inl, inr, ⊎_elim, append_assoc, append-nil, add-one, arith, length-set}
-use Rattle.std.specs.List.{range_with_len, AllByRecursion as All}
-use Rattle.std.proofs.lemmas.Bool.{cases_eq, cases_lt, lt-ltb, ltb-true, le-ltb, eqb-true, eq-eqb, ne_eqb, and_parts, and_from}
+use Rattle.std.proofs.Common.{◌≡◌, ℕ, zero, suc, ◌+◌, ◌-◌, ◌<◌, ◌≤◌, Bool, true, false, cond, eqb, ◌⊎◌, List, [], ◌∷◌, ◌++◌, length, set, Some, None, Option, sym, refl, ap, ◌∙◌, subst, inl, inr, ⊎_elim, append_assoc, append-nil, arith, length-set}
+use Rattle.std.specs.List.{range_with_len}
+use Rattle.std.proofs.lemmas.Bool.{cases_eq, cases_lt, eqb-true, eq-eqb, and_parts, and_from}
 use Rattle.std.proofs.lemmas.List.{get_or_past, get_or-set_same, get_or-set_other}
 use Rattle.disk.specs.declared.label.Label.{Label}
-use Rattle.disk.specs.Labels.{is_file, is_free, free_label, id_of, words_of, label_of}
+use Rattle.disk.specs.Labels.{free_label, words_of, label_of}
 use Rattle.disk.specs.Media.{Page, Write, label_at, data_at, put, a_label, unreadable}
-use Rattle.survey.specs.Chains.{Naming, is_leader, follower, chain, rest, pages_above, leader_of, rivalled}
-use Rattle.survey.specs.Laws.{In, Leader}
-use Rattle.survey.proofs.Following.{never, not_true, has_label, member, Member, file_not_free}
+use Rattle.survey.specs.Chains.{Naming}
+use Rattle.survey.proofs.Following.{not_true, has_label}
 use Rattle.survey.proofs.Leading.{tested}
-use Rattle.ledger.specs.Runs.{applied, Inside}
+use Rattle.ledger.specs.Runs.{applied}
 use Rattle.ledger.specs.Mends.{is_chained, page_after, page_before, relinked, mended_label, same_words, relabelling, mend_at, gathered, mend_writes}
 use Rattle.ledger.proofs.Framing.{label_other, label_there}
 use Rattle.ledger.proofs.Running.{applied_then, length_put}
-use Rattle.ledger.proofs.Mending.{Names, Between, mended_chained, mended_free, mended_none, mended_nought, chained_member}
-use Rattle.ledger.proofs.Salvage.{chained_kept, after_kept, before_kept}
+use Rattle.ledger.proofs.Mending.{Between, mended_chained, mended_free, mended_none, mended_nought}
 
 -- What is gathered from one page more.
 pub gathered_more : (f : ℕ → List Write) (a k p : ℕ) → a + k ≡ p → gathered f (range_with_len a (suc k)) ≡ gathered f (range_with_len a k) ++ f p

@@ -1,10 +1,8 @@
 -- Runs of planned writes: joined, parted, and as loops and walks make them.
 use Rattle.std.proofs.Common.{◌≡◌, ℕ, ◌+◌, ◌<◌, ◌≤◌, Bool, true, false, ◌⊎◌, List, [], ◌∷◌, ◌++◌, length, get_or, take, drop, IsErrAnd, Ok, Err, Result, sym, refl, ap, ◌∙◌, subst, inl, inr, ⊎_elim, arith, length-set}
 use Rattle.std.proofs.lemmas.List.{take_more, take-append-drop, take_all}
-use Rattle.std.specs.List.{AllByRecursion as All}
 use Rattle.disk.specs.declared.refusal.Refusal.{Refusal}
-use Rattle.disk.specs.Refusals.{hardware}
-use Rattle.disk.specs.Media.{Page, Medium, Part, a_label, a_data, Write, put, spoilt, after, off_with, Goes, Went, Ignored, Torn, Cut, Written}
+use Rattle.disk.specs.Media.{Page, Medium, Part, a_label, a_data, Write, put, after, Ignored, Torn, Cut, Written}
 use Rattle.ledger.specs.Runs.{applied, Through, Stopped, Ran, whole, Whole, Inside, Value, Split, Kept, BothThrough, SecondStopped, NothingDone, RunLaws}
 
 -- One write is a run.

@@ -1,21 +1,18 @@
 -- What is read off pages that are partly or wholly mended.
-use Rattle.std.proofs.Common.{◌≡◌, ℕ, zero, suc, ◌+◌, ◌-◌, ◌<◌, ◌≤◌, Bool, true, false, cond, not, ◌&&◌, eqb, ltb, leb, ◌⊎◌, List, [], ◌∷◌, ◌++◌, map, length, get_or, Some, None, Option, sym, refl, ap, ◌∙◌, subst, inl, inr, ⊎_elim, add-one, arith}
+use Rattle.std.proofs.Common.{◌≡◌, ℕ, ◌+◌, ◌-◌, ◌<◌, ◌≤◌, Bool, true, false, cond, not, ◌&&◌, eqb, ltb, leb, ◌⊎◌, List, [], ◌∷◌, map, length, Some, None, Option, sym, refl, ap, ◌∙◌, subst, inl, inr, ⊎_elim, arith}
 use Rattle.std.specs.List.{range_with_len}
-use Rattle.std.proofs.lemmas.Bool.{cases_eq, cases_lt, lt-ltb, ltb-true, le-ltb, eqb-true, eq-eqb, ne_eqb, and_parts, and_from}
-use Rattle.std.proofs.lemmas.List.{get_or_past}
+use Rattle.std.proofs.lemmas.Bool.{cases_lt, eq-eqb, ne_eqb, and_parts, and_from}
 use Rattle.disk.specs.declared.label.Label.{Label}
-use Rattle.disk.specs.declared.label.FileId.{FileId}
 use Rattle.disk.specs.Labels.{is_file, is_free, free_label, id_of}
-use Rattle.disk.specs.Media.{Page, label_at, data_at}
+use Rattle.disk.specs.Media.{Page, label_at}
 use Rattle.survey.specs.Chains.{Naming, is_leader, follower, chain, rest, is_in, first_of, pages_above, leader_of, rivalled, rival_of}
 use Rattle.survey.specs.Laws.{In, Leader}
-use Rattle.survey.proofs.Walks.{Links, Steps, rise, links_at, steps}
-use Rattle.survey.proofs.Following.{never, not_true, links, next_in_chain, leader_from, leader_is, has_label, follows, member, Member, number, id_at, chain_steps}
-use Rattle.survey.proofs.Leading.{tested, first_is, first_none, first_found, first_there, Led, leader_of_is, one_leader, Rival, rivalled_there, rivalled_is}
-use Rattle.ledger.specs.Mends.{is_chained, page_after, page_before, page_or_none, relinked, mended_label}
-use Rattle.ledger.specs.Ledgers.{id_on, count_on, located_page, located_file, located_at, located, is_directory, counts, file_at, files, unlocated, directory_words, all_words, entries, entries_of, LocatedPage, LocatedFile, File, DataPage}
-use Rattle.ledger.specs.Directories.{Entry}
-use Rattle.ledger.proofs.Mending.{Names, Between, chained_led, led_chained, leader_chained, chained_member, chained_on, follower_kept, leaders_kept, chain_kept, read_kept}
+use Rattle.survey.proofs.Walks.{Steps, rise}
+use Rattle.survey.proofs.Following.{next_in_chain, leader_from, leader_is, has_label, follows, number, id_at, chain_steps}
+use Rattle.survey.proofs.Leading.{tested, first_is, first_none, one_leader, Rival, rivalled_there, rivalled_is}
+use Rattle.ledger.specs.Mends.{is_chained, page_after, page_before, page_or_none}
+use Rattle.ledger.specs.Ledgers.{id_on, count_on, located_page, located_file, located_at, located, is_directory, counts, file_at, files, unlocated, directory_words, all_words, entries, entries_of, LocatedFile}
+use Rattle.ledger.proofs.Mending.{Names, Between, chained_led, led_chained, leader_chained, chained_member, follower_kept, leaders_kept, chain_kept, read_kept}
 
 -- Two tests that agree have the same first page.
 first_same : (t u : ℕ → Bool) (xs : List ℕ) → ((x : ℕ) → t x ≡ u x) → first_of t xs ≡ first_of u xs

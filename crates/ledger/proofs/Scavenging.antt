@@ -1,5 +1,5 @@
 -- A scavenge by its plan: what it comes to on every drive.
-use Rattle.std.proofs.Common.{◌≡◌, ℕ, zero, suc, ◌+◌, ◌-◌, ◌*◌, ◌<◌, ◌≤◌, Bool, true, false, cond, ltb, ◌⊎◌, List, [], ◌∷◌, ◌++◌, length, is_ok, Some, None, Ok, Err, Option, Result, sym, refl, ap, ◌∙◌, subst, inl, inr, ⊎_elim, arith}
+use Rattle.std.proofs.Common.{◌≡◌, ℕ, zero, suc, ◌+◌, ◌-◌, ◌<◌, ◌≤◌, Bool, true, false, cond, ltb, ◌⊎◌, List, [], ◌∷◌, length, is_ok, Some, None, Ok, Err, Option, Result, sym, refl, ap, ◌∙◌, subst, inl, inr, ⊎_elim, arith}
 use Rattle.std.specs.List.{range_with_len, AllByRecursion as All}
 use Rattle.std.proofs.lemmas.Bool.{lt-ltb, le-ltb, ltb-true}
 use Rattle.std.proofs.ByRecursion.{All-append}
@@ -12,16 +12,15 @@ use Rattle.disk.specs.Addresses.{page_named, real_address, Conversion}
 use Rattle.disk.specs.Labels.{words_of}
 use Rattle.disk.specs.Media.{Page, Medium, Write, label_at, label_write, spun_up}
 use Rattle.survey.specs.declared.table.Totals.{Totals}
-use Rattle.survey.specs.Chains.{Naming, pages_above, rivalled, rival_of}
+use Rattle.survey.specs.Chains.{Naming, rivalled, rival_of}
 use Rattle.survey.specs.Verdicts.{table_of, totals}
-use Rattle.survey.specs.Laws.{In}
 use Rattle.survey.proofs.Following.{not_true}
 use Rattle.ledger.specs.declared.kept.PackRecord.{PackRecord}
-use Rattle.ledger.specs.Runs.{Through, Stopped, Inside, applied, whole}
-use Rattle.ledger.specs.Plans.{Plan, refuses, writes, unready, Done, IsPlanned}
+use Rattle.ledger.specs.Runs.{Inside, applied, whole}
+use Rattle.ledger.specs.Plans.{refuses, writes, unready, Done, IsPlanned}
 use Rattle.ledger.specs.Mends.{same_words, relabelling, mended_label, mend_at, gathered, mend_writes, mended_record}
 use Rattle.ledger.specs.Books.{Sized}
-use Rattle.ledger.specs.Scavenges.{Mended, scavenge_of, Scavenged, ScavengeValue, ThroughOrOff, ThenMended, StillThere, NothingLostOnTheWay}
+use Rattle.ledger.specs.Scavenges.{Mended, Scavenged, ScavengeValue, ThroughOrOff, ThenMended, StillThere, NothingLostOnTheWay}
 use Rattle.ledger.proofs.Running.{through_whole, stopped_off}
 use Rattle.ledger.proofs.Planning.{planned}
 use Rattle.ledger.proofs.Mending.{Names, Between}

@@ -16,7 +16,7 @@ use Rattle.ledger.specs.declared.handle.Handle.{Handle}
 use Rattle.ledger.specs.Plans.{Plan, refuses, writes, first_record, unready, Done}
 use Rattle.ledger.specs.Formats.{leader_data, directory_id, format_plan}
 use Rattle.ledger.specs.Mends.{scavenge_plan, scavenge_start}
-use Rattle.ledger.specs.Directories.{Entry, Named}
+use Rattle.ledger.specs.Directories.{Entry}
 use Rattle.ledger.specs.Ledgers.{DataPage, File, Ledger, ledger_of}
 use Rattle.ledger.specs.States.{InOrder, KeptState}
 use Rattle.ledger.specs.Calls.{create_plan, append_plan, replace_plan, truncate_plan, delete_plan}

@@ -1,5 +1,5 @@
 -- What each call on files is to write, or why it is refused.
-use Rattle.std.specs.Prelude.{ℕ, ◌+◌, ◌-◌, Bool, true, false, cond, not, ◌&&◌, ◌||◌, List, [], ◌∷◌, ◌++◌, map, length, take, drop, Some, None, Option, ◌==◌, nat_le, nat_lt, slice_index}
+use Rattle.std.specs.Prelude.{ℕ, ◌+◌, ◌-◌, Bool, cond, not, ◌&&◌, ◌||◌, List, [], ◌∷◌, ◌++◌, map, length, take, drop, Some, None, Option, ◌==◌, nat_le, nat_lt, slice_index}
 use Rattle.disk.specs.declared.label.Label.{Label}
 use Rattle.disk.specs.declared.refusal.Reason.{Reason}
 use Rattle.disk.specs.declared.refusal.Reason.TheVariants.{TooSmall, TooBig, BadParameter, BadState, BadFile, PageNotFull, PageNumberTooSmall, BadDiskAddress, TooMany, NoFreePage, LabelNotFree}
@@ -8,7 +8,7 @@ use Rattle.disk.specs.declared.refusal.Place.TheVariants.{Pack, File}
 use Rattle.disk.specs.Labels.{free_label, numbered}
 use Rattle.disk.specs.Refusals.{refusal}
 use Rattle.disk.specs.Media.{Page, label_at, Write, label_write, data_write}
-use Rattle.survey.specs.Chains.{Naming, same_file, is_leader, rest, chain}
+use Rattle.survey.specs.Chains.{Naming, same_file, is_leader, chain}
 use Rattle.ledger.specs.declared.kept.PackRecord.{PackRecord}
 use Rattle.ledger.specs.declared.handle.Handle.{Handle}
 use Rattle.ledger.specs.Runs.{freeing}

@@ -1,5 +1,5 @@
 -- Writes that change no chain.
-use Rattle.std.specs.Prelude.{◌≡◌, ℕ, true, false, List, Some, None, ◌≢◌}
+use Rattle.std.specs.Prelude.{◌≡◌, ℕ, false, List, Some, ◌≢◌}
 use Rattle.disk.specs.declared.label.Label.{Label}
 use Rattle.disk.specs.Labels.{free_label}
 use Rattle.disk.specs.Media.{Page, label_at, put, a_label, a_data}

@@ -1,5 +1,5 @@
 -- What a call that writes does: fixed by its arguments and by what stands before it.
-use Rattle.std.specs.Prelude.{◌≡◌, ℕ, Bool, true, false, List, [], ◌∷◌, ◌++◌, length, Ok, Err, Result}
+use Rattle.std.specs.Prelude.{◌≡◌, true, false, List, [], Ok, Err, Result}
 use Rattle.disk.specs.declared.refusal.Refusal.{Refusal}
 use Rattle.disk.specs.Media.{Medium, Write}
 use Rattle.bits.specs.Bits.{none_free}

@@ -1,12 +1,11 @@
 -- A claim on the page that was found.
-use Rattle.std.proofs.Common.{◌≡◌, ℕ, ◌<◌, ◌≤◌, min, Bool, true, false, cond, ltb, List, length, Some, None, Ok, Err, Option, Result, sym, refl, ap, ◌∙◌, subst, arith}
+use Rattle.std.proofs.Common.{◌≡◌, ℕ, ◌<◌, ◌≤◌, min, true, cond, ltb, List, Some, Ok, Option, sym, ap, ◌∙◌, subst, arith}
 use Rattle.std.proofs.lemmas.Bool.{cond-true, lt-ltb}
-use Rattle.disk.specs.declared.refusal.Refusal.{Refusal}
 use Rattle.disk.specs.Media.{Page, label_at}
-use Rattle.bits.specs.Bits.{round_free, start_page, taken, SomeFree, FreeAt}
+use Rattle.bits.specs.Bits.{round_free, start_page, taken, SomeFree}
 use Rattle.bits.proofs.Searches.{next_free_is}
 use Rattle.ledger.specs.declared.kept.PackRecord.{PackRecord}
-use Rattle.ledger.specs.Searches.{searched, free_label_at, with_taken}
+use Rattle.ledger.specs.Searches.{searched, free_label_at}
 use Rattle.pack.specs.Claims.{claim_answer, claim_record}
 
 -- A pack has at most 9,744 pages.

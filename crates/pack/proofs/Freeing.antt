@@ -1,5 +1,5 @@
 -- Pages freed one after the other.
-use Rattle.std.proofs.Common.{◌≡◌, ℕ, zero, suc, ◌+◌, List, [], ◌∷◌, sym, refl, ap, ◌∙◌, arith}
+use Rattle.std.proofs.Common.{◌≡◌, ℕ, zero, suc, ◌+◌, List, ap, arith}
 use Rattle.std.specs.List.{range_with_len}
 use Rattle.bits.specs.Bits.{free_all, freed}
 

@@ -1,12 +1,12 @@
 -- The loop that mends page after page.
-use Rattle.std.proofs.Common.{◌≡◌, ℕ, zero, suc, ◌+◌, ◌-◌, ◌*◌, ◌<◌, ◌≤◌, Bool, true, false, cond, ltb, ◌⊎◌, List, [], ◌∷◌, ◌++◌, length, get_or, take, drop, Some, None, Ok, Err, Option, Result, sym, refl, ap, ◌∙◌, subst, inl, inr, ⊎_elim, append_assoc, append-nil, arith}
+use Rattle.std.proofs.Common.{◌≡◌, ℕ, zero, suc, ◌+◌, ◌-◌, ◌<◌, ◌≤◌, Bool, true, false, ◌⊎◌, List, [], ◌++◌, length, get_or, Some, None, Option, sym, refl, ap, ◌∙◌, subst, inl, inr, ⊎_elim, append_assoc, append-nil, arith}
 use Rattle.std.specs.List.{range_with_len}
 use Rattle.std.proofs.lemmas.Bool.{lt-ltb, cases_lt}
 use Rattle.disk.specs.declared.label.Label.{Label}
 use Rattle.disk.specs.declared.refusal.Refusal.{Refusal}
 use Rattle.disk.specs.Media.{Page, Medium, Write, label_at}
-use Rattle.survey.specs.Chains.{Naming, pages_above}
-use Rattle.ledger.specs.Runs.{Through, Stopped, Ran, applied}
+use Rattle.survey.specs.Chains.{Naming}
+use Rattle.ledger.specs.Runs.{Through, Stopped}
 use Rattle.ledger.specs.Mends.{is_chained, page_after, page_before, mended, mended_label, relabelling, mend_at, gathered, mend_writes}
 use Rattle.ledger.proofs.Running.{through_then, stopped_then, stopped_early, through_whole}
 use Rattle.ledger.proofs.Restoring.{gathered_more, prefix}

@@ -1,19 +1,17 @@
 -- The links of chained pages, noted page after page.
-use Rattle.std.proofs.Common.{◌≡◌, ℕ, zero, suc, ◌+◌, ◌-◌, ◌*◌, ◌<◌, ◌≤◌, Bool, true, false, cond, ◌&&◌, eqb, ltb, ◌⊎◌, List, [], ◌∷◌, length, get_or, set, replicate, Some, None, Option, sym, refl, ap, ◌∙◌, subst, inl, inr, ⊎_elim, arith, length-set}
+use Rattle.std.proofs.Common.{◌≡◌, ℕ, zero, suc, ◌+◌, ◌-◌, ◌<◌, ◌≤◌, Bool, true, false, cond, eqb, ◌⊎◌, List, length, get_or, set, replicate, Some, None, Option, sym, refl, ap, ◌∙◌, subst, inl, inr, ⊎_elim, arith, length-set}
 use lib.ListN.{length-replicate}
 use Rattle.std.specs.List.{range_with_len}
-use Rattle.std.proofs.lemmas.Bool.{cases_eq, cases_lt, lt-ltb, ltb-true, eqb-true, eq-eqb, ne_eqb, and_from}
+use Rattle.std.proofs.lemmas.Bool.{cases_eq, eq-eqb, ne_eqb, and_from}
 use Rattle.std.proofs.lemmas.List.{get_or-set_same, get_or-set_other}
-use Rattle.disk.specs.declared.label.Label.{Label}
-use Rattle.disk.specs.Media.{Page, label_at}
-use Rattle.survey.specs.declared.table.Record.{Record}
+use Rattle.disk.specs.Media.{Page}
 use Rattle.survey.specs.declared.table.Verdict.{Verdict}
 use Rattle.survey.specs.declared.table.Verdict.TheVariants.{Reserved, Free, Chained, Stray, Aside}
-use Rattle.survey.specs.Chains.{Naming, follower, first_of, rivalled, leader_of}
+use Rattle.survey.specs.Chains.{Naming, follower, first_of, rivalled}
 use Rattle.survey.specs.Verdicts.{record_of}
 use Rattle.survey.proofs.Following.{not_true, has_label, follows}
 use Rattle.survey.proofs.Leading.{tested, first_is}
-use Rattle.ledger.specs.Mends.{is_chained, page_after, page_before, page_or_none}
+use Rattle.ledger.specs.Mends.{is_chained, page_after, page_before}
 use Rattle.ledger.proofs.Mending.{after_some, after_none}
 use Rattle.ledger.proofs.Salvage.{one_before}
 use Rattle.ledger.proofs.Keeping.{verdict_chained, chained_verdict}

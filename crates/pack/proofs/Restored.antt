@@ -1,8 +1,8 @@
 -- What a survey has found, and the record that is made of it.
-use Rattle.std.proofs.Common.{◌≡◌, ℕ, zero, suc, ◌+◌, ◌-◌, ◌<◌, ◌≤◌, Bool, true, false, cond, ltb, ◌⊎◌, List, [], ◌∷◌, ◌++◌, length, get_or, take, drop, replicate, Ok, Err, filter, Result, sym, refl, ap, ◌∙◌, subst, inl, inr, ⊎_elim, arith}
+use Rattle.std.proofs.Common.{◌≡◌, ℕ, zero, suc, ◌+◌, ◌-◌, ◌<◌, ◌≤◌, Bool, true, false, cond, ltb, List, [], ◌∷◌, ◌++◌, length, get_or, take, drop, replicate, Ok, Err, filter, Result, sym, refl, ap, ◌∙◌, ⊎_elim, arith}
 use Rattle.std.specs.List.{range_with_len}
 use Rattle.std.proofs.lemmas.Bool.{le-ltb, lt-ltb, cases_lt}
-use Rattle.std.proofs.lemmas.List.{get_or_append_left, take-append-le, take_all, length-append}
+use Rattle.std.proofs.lemmas.List.{get_or_append_left, take-append-le, take_all}
 use Rattle.disk.specs.declared.refusal.Refusal.{Refusal}
 use Rattle.disk.specs.declared.refusal.Reason.TheVariants.{TooSmall, Rivals}
 use Rattle.disk.specs.declared.refusal.Place.TheVariants.{Pack}
@@ -12,14 +12,12 @@ use Rattle.bits.specs.declared.BitTable.{BitTable}
 use Rattle.bits.specs.Bits.{free_all, none_free}
 use Rattle.survey.specs.declared.table.Record.{Record}
 use Rattle.survey.specs.declared.table.Totals.{Totals}
-use Rattle.survey.specs.Chains.{Naming, pages_above, rivalled, rival_of}
+use Rattle.survey.specs.Chains.{Naming, rivalled, rival_of}
 use Rattle.survey.specs.Verdicts.{record_of, table_of, totals, found, cleared, survey_answer, survey_table}
-use Rattle.survey.specs.Laws.{In}
 use Rattle.survey.specs.Steps.{no_record}
 use Rattle.survey.proofs.Following.{not_true}
 use Rattle.survey.proofs.Finding.{length_table, at_table}
 use Rattle.survey.proofs.Counting.{cleared_is}
-use Rattle.ledger.specs.declared.kept.PackRecord.{PackRecord}
 use Rattle.ledger.specs.Mends.{ends_free, largest_serial, pages_freed, mended_record}
 use Rattle.pack.specs.Linking.{Filled, freed_in}
 

@@ -1,6 +1,6 @@
 -- Records counted and cleared.
-use Rattle.std.proofs.Common.{◌≡◌, ℕ, zero, suc, ◌+◌, ◌-◌, ◌<◌, ◌≤◌, List, [], ◌∷◌, ◌++◌, length, get_or, take, drop, set, replicate, sym, refl, ap, ◌∙◌, subst, add-one, arith, drop-cons}
-use Rattle.std.proofs.lemmas.List.{length-take-le, get_or-take, take_all, drop_all}
+use Rattle.std.proofs.Common.{◌≡◌, ℕ, zero, suc, ◌+◌, ◌<◌, ◌≤◌, List, [], ◌∷◌, ◌++◌, length, get_or, take, drop, set, replicate, refl, ap, ◌∙◌, arith, drop-cons}
+use Rattle.std.proofs.lemmas.List.{length-take-le, get_or-take, drop_all}
 use Rattle.survey.specs.declared.table.Record.{Record}
 use Rattle.survey.specs.declared.table.Verdict.{Verdict}
 use Rattle.survey.specs.declared.table.Verdict.TheVariants.{Reserved, Free, Chained, Stray, Aside}

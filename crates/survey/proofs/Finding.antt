@@ -1,11 +1,8 @@
 -- What the scan, the search for rivals and the walks come to.
-use Rattle.std.proofs.Common.{◌≡◌, ℕ, zero, suc, ◌+◌, ◌-◌, ◌<◌, ◌≤◌, Bool, true, false, cond, ltb, ◌⊎◌, List, [], ◌∷◌, ◌++◌, map, length, get_or, take, drop, replicate, Ok, Err, Result, sym, refl, ap, ◌∙◌, subst, inl, inr, ⊎_elim, arith}
-use Rattle.std.specs.List.{range_with_len}
+use Rattle.std.proofs.Common.{◌≡◌, ℕ, ◌+◌, ◌-◌, ◌<◌, ◌≤◌, Bool, true, false, ltb, ◌⊎◌, List, ◌++◌, length, get_or, take, drop, replicate, Ok, Err, Result, sym, refl, ap, ◌∙◌, subst, inl, inr, ⊎_elim, arith}
 use Rattle.std.proofs.lemmas.List.FromFn.{length-map-range_with_len, get_or-map-range_with_len}
 use Rattle.std.proofs.lemmas.Bool.{cases_eq, cases_lt, ltb-true, lt-ltb, le-ltb}
 use Rattle.std.proofs.lemmas.List.{length-drop, length-append, get_or_append_left, get_or-append_right, get_or-drop, ext_get_or, take-append-le, take_all}
-use Rattle.disk.specs.declared.label.Label.{Label}
-use Rattle.disk.specs.declared.label.FileId.{FileId}
 use Rattle.disk.specs.declared.refusal.Refusal.{Refusal}
 use Rattle.disk.specs.declared.refusal.Reason.TheVariants.{Rivals}
 use Rattle.disk.specs.declared.refusal.Place.TheVariants.{Pack}
@@ -14,12 +11,12 @@ use Rattle.disk.specs.Media.{Page, label_at}
 use Rattle.survey.specs.declared.table.Record.{Record}
 use Rattle.survey.specs.declared.table.Totals.{Totals}
 use Rattle.survey.specs.declared.table.Verdict.TheVariants.{Chained, Reserved}
-use Rattle.survey.specs.Chains.{Naming, same_file, is_leader, chain, leader_of, are_rivals, rival_of, rivalled}
-use Rattle.survey.specs.Verdicts.{bare, filed, judged, record_by, record_of, table_of, totals, survey_answer, survey_table}
+use Rattle.survey.specs.Chains.{Naming, is_leader, chain, leader_of, are_rivals, rival_of, rivalled}
+use Rattle.survey.specs.Verdicts.{bare, filed, record_by, record_of, table_of, totals, survey_answer, survey_table}
 use Rattle.survey.specs.Laws.{In, Leader}
 use Rattle.survey.specs.Steps.{no_record, judged_at, first_record, Scanned, Listed, alike, Match, Pair, MarkedAll}
 use Rattle.survey.proofs.Following.{not_true, file_not_free, file_same, file_from, leader_is, leader_from, has_label, member, id_at}
-use Rattle.survey.proofs.Leading.{tested, first_is, first_found, first_none, Led, leader_of_is, leader_of_there, Rival, rivals_are, rivals_from, rival_back, rival_there, rival_is, rivalled_there, rivalled_is, leader_only}
+use Rattle.survey.proofs.Leading.{tested, first_is, Led, leader_of_is, leader_of_there, Rival, rivals_are, rivals_from, rival_back, rival_there, rival_is, rivalled_is}
 
 -- The record that the scan gives a leader.
 leader_record : (ps : List Page) (q : ℕ) → is_leader ps q ≡ true → (k : Leader ps q) → first_record ps q ≡ filed Chained q k.label

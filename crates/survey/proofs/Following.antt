@@ -1,13 +1,12 @@
 -- What follows what, and the chains that come of it.
-use Rattle.std.proofs.Common.{◌≡◌, ℕ, zero, suc, ◌+◌, ◌/◌, ◌%◌, ◌<◌, ◌≤◌, Bool, true, false, cond, not, ◌&&◌, eqb, ltb, leb, ◌⊎◌, List, [], ◌∷◌, length, get_or, Some, None, Option, sym, refl, ap, ◌∙◌, subst, inl, inr, arith}
-use Rattle.std.specs.List.{AllByRecursion as All}
+use Rattle.std.proofs.Common.{◌≡◌, ℕ, ◌+◌, ◌<◌, ◌≤◌, Bool, true, false, cond, not, ◌&&◌, eqb, ltb, leb, ◌⊎◌, List, [], ◌∷◌, length, get_or, Some, None, Option, sym, refl, ap, ◌∙◌, subst, inl, inr, arith}
 use Rattle.std.proofs.lemmas.Bool.{cases_lt, eqb-true, eq-eqb, ltb-true, lt-ltb, and_parts, and_from}
 use Rattle.std.proofs.lemmas.List.{get_or_past}
 use Rattle.disk.specs.declared.label.Label.{Label}
 use Rattle.disk.specs.declared.label.FileId.{FileId}
 use Rattle.disk.specs.Labels.{is_file, is_free, random_mark, id_of}
 use Rattle.disk.specs.Media.{Page, label_at, unreadable}
-use Rattle.survey.specs.Chains.{Naming, same_file, same_id, leads, is_leader, kept_if, points, joins, follower, behind, rest, chain, one_file}
+use Rattle.survey.specs.Chains.{Naming, same_file, same_id, leads, is_leader, kept_if, points, joins, follower, rest, chain}
 use Rattle.survey.specs.Laws.{In, Distinct, Follows, Leader}
 use Rattle.survey.proofs.Walks.{Steps, Links, links_next, steps, distinct, number_at, kept_along, stepped_to, all_below, pigeonhole, is_behind, enough}
 

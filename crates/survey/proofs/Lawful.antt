@@ -1,18 +1,18 @@
 -- The laws of chains and verdicts.
-use Rattle.std.proofs.Common.{◌≡◌, ℕ, zero, suc, ◌+◌, ◌-◌, ◌<◌, ◌≤◌, Bool, true, false, cond, ltb, ◌⊎◌, List, [], ◌∷◌, length, get_or, Some, None, Option, sym, refl, ap, ◌∙◌, subst, inl, inr, ⊎_elim, add-one, arith}
+use Rattle.std.proofs.Common.{◌≡◌, ℕ, ◌+◌, ◌-◌, ◌<◌, ◌≤◌, Bool, true, false, cond, ltb, ◌⊎◌, List, [], ◌∷◌, length, get_or, Some, None, Option, sym, refl, ap, ◌∙◌, subst, inl, inr, add-one, arith}
 use Rattle.std.proofs.lemmas.Bool.{cases_lt, lt-ltb, ltb-true}
 use Rattle.disk.specs.declared.label.Label.{Label}
-use Rattle.disk.specs.Labels.{is_free, id_of}
+use Rattle.disk.specs.Labels.{is_free}
 use Rattle.disk.specs.Media.{Page, label_at}
 use Rattle.survey.specs.declared.table.Record.{Record}
 use Rattle.survey.specs.declared.table.Verdict.{Verdict}
 use Rattle.survey.specs.declared.table.Verdict.TheVariants.{Reserved, Free, Chained, Stray, Aside}
 use Rattle.survey.specs.Chains.{Naming, follower, rest, chain, leader_of, are_rivals, rival_of, rivalled}
-use Rattle.survey.specs.Verdicts.{verdict_number, bare, filed, owned, judged, record_by, record_of, table_of, counted, totals}
-use Rattle.survey.specs.Laws.{In, Leader, Follows, Reached, here, onto, RivalsStand, NamedPair, SoundChain, InOneChain, all_of, SurveyLaws}
+use Rattle.survey.specs.Verdicts.{verdict_number, bare, filed, owned, judged, record_by, record_of, table_of, totals}
+use Rattle.survey.specs.Laws.{In, Leader, Reached, here, onto, RivalsStand, NamedPair, SoundChain, InOneChain, all_of, SurveyLaws}
 use Rattle.survey.proofs.Walks.{Steps, links_at}
-use Rattle.survey.proofs.Following.{not_true, follows, follower_from, links, no_repeats, numbered_from, number, next_in_chain, chain_steps, member, id_at, has_label}
-use Rattle.survey.proofs.Leading.{First, first_found, Led, leader_of_is, leader_of_there, leader_only, Rival, rival_there, rivals_from, rivalled_is, rivalled_there}
+use Rattle.survey.proofs.Following.{not_true, follows, follower_from, links, no_repeats, numbered_from, number, next_in_chain, chain_steps, member, id_at}
+use Rattle.survey.proofs.Leading.{first_found, Led, leader_of_is, leader_of_there, leader_only, Rival, rival_there, rivals_from, rivalled_is, rivalled_there}
 use Rattle.survey.proofs.Marking.{chained_record}
 use Rattle.survey.proofs.Counting.{sum_counted}
 use Rattle.survey.proofs.Finding.{length_table}

@@ -1,14 +1,13 @@
 -- The first page that passes a test; the leader of a page; rivals.
-use Rattle.std.proofs.Common.{◌≡◌, ℕ, zero, suc, ◌+◌, ◌-◌, ◌<◌, ◌≤◌, Bool, true, false, cond, not, ◌&&◌, eqb, ltb, ◌⊎◌, List, [], ◌∷◌, length, get_or, Some, None, Option, sym, refl, ap, ◌∙◌, subst, inl, inr, arith}
+use Rattle.std.proofs.Common.{◌≡◌, ℕ, zero, suc, ◌+◌, ◌-◌, ◌<◌, ◌≤◌, Bool, true, false, cond, not, ◌&&◌, eqb, ltb, ◌⊎◌, List, length, Some, None, Option, sym, refl, ap, ◌∙◌, inl, inr, arith}
 use Rattle.std.specs.List.{range_with_len}
-use Rattle.std.proofs.lemmas.Bool.{cases_eq, cases_lt, eqb-true, eq-eqb, ne_eqb, ltb-true, lt-ltb, and_parts, and_from}
+use Rattle.std.proofs.lemmas.Bool.{cases_eq, eq-eqb, ne_eqb, ltb-true, lt-ltb, and_parts, and_from}
 use Rattle.disk.specs.declared.label.Label.{Label}
-use Rattle.disk.specs.Labels.{id_of}
 use Rattle.disk.specs.Media.{Page, label_at}
-use Rattle.survey.specs.Chains.{Naming, same_id, leads, is_leader, chain, is_in, first_of, pages_above, leader_of, one_file, are_rivals, rival_of, rivalled}
+use Rattle.survey.specs.Chains.{Naming, is_leader, chain, is_in, first_of, pages_above, leader_of, one_file, are_rivals, rival_of, rivalled}
 use Rattle.survey.specs.Laws.{In, Leader}
 use Rattle.survey.proofs.Walks.{in_is_in, is_in_in}
-use Rattle.survey.proofs.Following.{never, not_true, id_same, same_from, leader_is, leader_from, has_label, member, one_id, id_at}
+use Rattle.survey.proofs.Following.{not_true, id_same, same_from, leader_is, leader_from, has_label, one_id, id_at}
 
 -- A test comes out one way or the other.
 pub tested : (b : Bool) → (b ≡ true) ⊎ (b ≡ false)

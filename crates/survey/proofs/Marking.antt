@@ -1,20 +1,19 @@
 -- The pages of a chain, marked one after the other.
-use Rattle.std.proofs.Common.{◌≡◌, ℕ, ◌+◌, ◌<◌, ◌≤◌, Bool, true, false, cond, ◌||◌, ltb, ◌⊎◌, List, [], ◌∷◌, length, get_or, set, Some, None, Option, sym, refl, ap, ◌∙◌, subst, inl, inr, ⊎_elim, arith}
+use Rattle.std.proofs.Common.{◌≡◌, ℕ, ◌+◌, ◌<◌, ◌≤◌, true, ◌⊎◌, List, length, get_or, set, Some, None, Option, sym, refl, ap, ◌∙◌, subst, inl, inr, ⊎_elim, arith}
 use Rattle.std.proofs.lemmas.Bool.{cases_eq, lt-ltb}
 use Rattle.std.proofs.lemmas.List.{get_or-set_same, get_or-set_other}
 use Rattle.disk.specs.declared.label.Label.{Label}
-use Rattle.disk.specs.Labels.{is_free}
 use Rattle.disk.specs.Addresses.{page_named}
 use Rattle.disk.specs.Media.{Page, Medium, label_at}
 use Rattle.survey.specs.declared.table.Record.{Record}
-use Rattle.survey.specs.declared.table.Verdict.TheVariants.{Chained, Stray, Reserved, Free}
+use Rattle.survey.specs.declared.table.Verdict.TheVariants.{Chained}
 use Rattle.survey.specs.declared.trace.Link.{Link}
 use Rattle.survey.specs.Chains.{Naming, is_leader, is_in, points, joins, kept_if, follower, rest, chain, rivalled}
-use Rattle.survey.specs.Verdicts.{bare, filed, owned, judged, record_by}
+use Rattle.survey.specs.Verdicts.{filed, record_by}
 use Rattle.survey.specs.Laws.{In, Leader}
 use Rattle.survey.specs.Steps.{no_record, Marked, MarkedAll, Walking, Linked}
 use Rattle.survey.proofs.Walks.{in_is_in, is_in_in}
-use Rattle.survey.proofs.Following.{never, not_true, file_not_free, has_label, rest_step, rest_stop, leader_is, Member, member, next_in_chain}
+use Rattle.survey.proofs.Following.{not_true, file_not_free, has_label, rest_step, rest_stop, leader_is, Member, member, next_in_chain}
 use Rattle.survey.proofs.Leading.{tested, one_leader}
 
 -- The record of a page of a chain.

@@ -1,19 +1,17 @@
 -- Moving pages about a pack changes no verdict and no file.
-use Rattle.std.proofs.Common.{◌≡◌, ℕ, zero, suc, ◌+◌, ◌*◌, ◌<◌, ◌≤◌, Bool, true, false, cond, not, ◌&&◌, eqb, ltb, leb, ◌⊎◌, List, [], ◌∷◌, map, length, get_or, Some, None, Option, sym, refl, ap, ◌∙◌, subst, inl, inr, ⊎_elim, arith}
-use Rattle.std.specs.List.{range_with_len}
+use Rattle.std.proofs.Common.{◌≡◌, ℕ, ◌+◌, ◌*◌, ◌<◌, ◌≤◌, Bool, true, false, cond, not, ◌&&◌, eqb, ltb, leb, List, ◌∷◌, map, length, get_or, Some, None, Option, sym, refl, ap, ◌∙◌, subst, ⊎_elim, arith}
 use Rattle.std.specs.Option.{option_map}
 use Rattle.std.proofs.lemmas.List.FromFn.{length-map-range_with_len, get_or-map-range_with_len}
-use Rattle.std.proofs.lemmas.Bool.{cases_eq, cases_lt, eqb-true, eq-eqb, ne_eqb, lt-ltb, ltb-true, le-ltb}
+use Rattle.std.proofs.lemmas.Bool.{cases_eq, cases_lt, eq-eqb, ne_eqb, lt-ltb, ltb-true}
 use Rattle.disk.specs.declared.label.Label.{Label}
 use Rattle.disk.specs.Addresses.{page_named, real_address, Conversion}
 use Rattle.disk.specs.Labels.{is_free, is_file, random_mark, id_of}
 use Rattle.disk.specs.Media.{Page, label_at, unreadable}
-use Rattle.survey.specs.declared.table.Record.{Record}
 use Rattle.survey.specs.declared.table.Verdict.TheVariants.{Reserved, Free, Chained, Stray, Aside}
 use Rattle.survey.specs.Chains.{Naming, same_id, leads, is_leader, kept_if, points, joins, follower, behind, rest, chain, leader_of, rival_of, rivalled}
-use Rattle.survey.specs.Verdicts.{bare, filed, owned, judged, record_by, record_of}
-use Rattle.survey.specs.Laws.{In, Leader, RivalsStand}
-use Rattle.survey.specs.Moves.{Move, renamed, relink, relabel, moved_page, moved, moved_record, SameSurvey, BothRivalled, MovedLaw, MovesChangeNothing}
+use Rattle.survey.specs.Verdicts.{bare, filed, judged, record_of}
+use Rattle.survey.specs.Laws.{In, Leader}
+use Rattle.survey.specs.Moves.{Move, renamed, relink, relabel, moved_page, moved, moved_record, MovedLaw, MovesChangeNothing}
 use Rattle.survey.proofs.Walks.{moved_behind, in_map, map_in}
 use Rattle.survey.proofs.Following.{never, not_true, below, leader_is, leader_from, has_label, member, id_at}
 use Rattle.survey.proofs.Leading.{Led, leader_of_is, leader_of_there, leader_only, Rival, rivalled_is, rivalled_there}

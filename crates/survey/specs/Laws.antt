@@ -1,5 +1,5 @@
 -- What is proved of chains and verdicts, in the subject's words.
-use Rattle.std.specs.Prelude.{◌≡◌, ℕ, ◌+◌, ◌<◌, ◌≤◌, true, ◌⊎◌, List, [], ◌∷◌, map, length, Some, slice_index}
+use Rattle.std.specs.Prelude.{◌≡◌, ℕ, ◌+◌, ◌<◌, ◌≤◌, true, ◌⊎◌, List, [], ◌∷◌, length, Some, slice_index}
 use Rattle.disk.specs.declared.label.Label.{Label}
 use Rattle.disk.specs.Labels.{is_file, id_of}
 use Rattle.disk.specs.Media.{Page, label_at}

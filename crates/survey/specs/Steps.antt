@@ -1,13 +1,12 @@
 -- What the parts of a survey do, one after the other.
-use Rattle.std.specs.Prelude.{◌≡◌, ℕ, ◌<◌, ◌≤◌, Bool, true, false, cond, ◌&&◌, ◌⊎◌, List, length, get_or, Some, None, Option, nat_lt, slice_index, slice_index_or}
+use Rattle.std.specs.Prelude.{◌≡◌, ℕ, ◌<◌, ◌≤◌, Bool, true, false, cond, ◌⊎◌, List, get_or, Some, None, Option, nat_lt, slice_index, slice_index_or}
 use Rattle.disk.specs.declared.address.PageAddress.{PageAddress}
 use Rattle.disk.specs.declared.label.Label.{Label}
-use Rattle.disk.specs.declared.label.FileId.{FileId}
 use Rattle.disk.specs.Media.{Page, label_at}
 use Rattle.survey.specs.declared.table.Record.{Record}
 use Rattle.survey.specs.declared.table.Verdict.TheVariants.{Reserved}
 use Rattle.survey.specs.declared.trace.Link.{Link}
-use Rattle.survey.specs.Chains.{Naming, leads, is_leader, kept_if, points, joins, chain, same_file}
+use Rattle.survey.specs.Chains.{Naming, is_leader, kept_if, points, joins, chain, same_file}
 use Rattle.survey.specs.Verdicts.{bare, judged, record_by}
 use Rattle.survey.specs.Laws.{In}
 

@@ -1,8 +1,7 @@
 -- Verdicts, the survey's table and its answer.
-use Rattle.std.specs.Prelude.{◌≡◌, ℕ, ◌+◌, Bool, true, false, cond, List, [], ◌∷◌, ◌++◌, map, length, drop, replicate, Some, None, Ok, Err, Option, Result, nat_lt}
+use Rattle.std.specs.Prelude.{ℕ, ◌+◌, cond, List, [], ◌∷◌, ◌++◌, map, length, drop, replicate, Some, None, Ok, Err, Option, Result, nat_lt}
 use Rattle.std.specs.List.{range_with_len}
 use Rattle.disk.specs.declared.label.Label.{Label}
-use Rattle.disk.specs.declared.label.FileId.{FileId}
 use Rattle.disk.specs.declared.refusal.Refusal.{Refusal}
 use Rattle.disk.specs.declared.refusal.Reason.TheVariants.{TooSmall, Rivals}
 use Rattle.disk.specs.declared.refusal.Place.TheVariants.{Pack}

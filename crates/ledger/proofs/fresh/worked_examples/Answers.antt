@@ -1,4 +1,4 @@
-use Rattle.std.proofs.Common.{◌≡◌, ℕ, List, length, sym, refl, ap, ◌∙◌, subst, arith}
+use Rattle.std.proofs.Common.{ℕ, List, ap, ◌∙◌, subst, arith}
 use Rattle.disk.specs.Addresses.{real_address}
 use Rattle.disk.proofs.Naming.{address_examples}
 use Rattle.disk.specs.Media.{Page}

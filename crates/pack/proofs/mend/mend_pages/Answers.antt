@@ -1,14 +1,13 @@
-use Rattle.std.proofs.Common.{◌≡◌, ℕ, List, length, get_or, sym, refl, ap, ◌∙◌, subst, arith}
+use Rattle.std.proofs.Common.{ℕ, List, ap, ◌∙◌, subst, arith}
 use Rattle.disk.specs.Addresses.{page_named, real_address}
-use Rattle.disk.specs.Media.{Medium, Write, label_at}
+use Rattle.disk.specs.Media.{Medium, Write}
 use Rattle.survey.specs.declared.table.Record.{Record}
 use Rattle.ledger.specs.Runs.{Through, Stopped}
-use Rattle.ledger.specs.Mends.{mended, relabelling, mend_at, mend_writes}
+use Rattle.ledger.specs.Mends.{mend_writes}
 use Rattle.ledger.proofs.Running.{broke}
 use Rattle.pack.specs.Linking.{says_chained}
 use Rattle.pack.proofs.Noting.{verdict_says}
 use Rattle.pack.proofs.MendingLoop.{turn_plan, mends_more, mends_cut, mends_all}
-use Rattle.pack.proofs.mend.mend_pages.Given as given
 use Rattle.pack.proofs.mend.mend_pages.Goals as goal
 
 pub returns-in_err-mend_page : goal.returns-in_err-mend_page

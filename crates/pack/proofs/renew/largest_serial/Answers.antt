@@ -1,4 +1,4 @@
-use Rattle.std.proofs.Common.{◌≡◌, ℕ, suc, ◌-◌, max, get_or, take, drop, sym, refl, ap, ◌∙◌, subst, arith}
+use Rattle.std.proofs.Common.{◌≡◌, ℕ, suc, ◌-◌, max, get_or, take, drop, sym, ap, ◌∙◌, arith}
 use Rattle.survey.specs.Steps.{no_record}
 use Rattle.ledger.specs.Mends.{serial_if, largest_serial}
 use Rattle.pack.proofs.Renewing.{largest_none, largest_more}

@@ -1,11 +1,10 @@
-use Rattle.std.proofs.Common.{◌≡◌, ℕ, ◌-◌, cond, ltb, List, get_or, filter, sym, refl, ap, ◌∙◌, subst, arith}
+use Rattle.std.proofs.Common.{◌≡◌, ℕ, ◌-◌, ltb, List, get_or, filter, sym, ap, ◌∙◌, arith}
 use Rattle.std.specs.List.{range_with_len}
 use Rattle.std.proofs.lemmas.Bool.{cond-true, lt-ltb}
 use Rattle.bits.specs.declared.BitTable.{BitTable}
 use Rattle.bits.specs.Bits.{free_all, freed, none_free}
 use Rattle.survey.specs.Steps.{no_record}
 use Rattle.ledger.specs.Mends.{ends_free}
-use Rattle.pack.specs.Linking.{freed_in}
 use Rattle.pack.proofs.Renewing.{freed_more, freed_left}
 use Rattle.pack.proofs.renew.mended_bits.Goals as goal
 use Rattle.pack.proofs.renew.mended_bits.Goals.{then-ends_free, else-ends_free}

@@ -1,4 +1,4 @@
-use Rattle.std.proofs.Common.{◌≡◌, ℕ, ◌<◌, ◌≤◌, true, List, ◌++◌, length, get_or, take, drop, replicate, Ok, Err, Result, sym, refl, ap, ◌∙◌, subst, arith}
+use Rattle.std.proofs.Common.{◌≡◌, ℕ, ◌≤◌, List, ◌++◌, length, get_or, take, drop, replicate, Err, Result, ap, ◌∙◌, subst, arith}
 use Rattle.disk.specs.declared.refusal.Refusal.{Refusal}
 use Rattle.disk.specs.Addresses.{page_named}
 use Rattle.disk.specs.Media.{Page, Medium}
@@ -8,7 +8,6 @@ use Rattle.survey.specs.Chains.{is_leader, rivalled}
 use Rattle.survey.specs.Verdicts.{totals}
 use Rattle.survey.specs.Steps.{no_record, MarkedAll}
 use Rattle.survey.proofs.Finding.{Lowest, pair_lowest, no_pair, Walked, table_filled, totals_filled, answer_rivals, table_rivals, answer_found, table_found, scanned_rest}
-use Rattle.survey.proofs.call.find.Given as given
 use Rattle.survey.proofs.call.find.Goals as goal
 
 pub returns-in-Some : goal.returns-in-Some

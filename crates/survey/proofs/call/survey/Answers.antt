@@ -1,4 +1,4 @@
-use Rattle.std.proofs.Common.{◌≡◌, ℕ, subst, arith}
+use Rattle.std.proofs.Common.{ℕ, subst}
 use Rattle.disk.specs.Addresses.{page_named, real_address}
 use Rattle.disk.specs.Media.{Medium}
 use Rattle.disk.proofs.Naming.{conversion}

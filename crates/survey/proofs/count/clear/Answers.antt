@@ -1,4 +1,4 @@
-use Rattle.std.proofs.Common.{◌≡◌, ℕ, suc, ◌+◌, ◌<◌, List, ◌++◌, length, drop, set, replicate, sym, ap, ◌∙◌, add-one, arith}
+use Rattle.std.proofs.Common.{ℕ, ◌<◌, List, ◌++◌, length, drop, set, replicate, sym, ap, ◌∙◌, add-one, arith}
 use Rattle.survey.specs.declared.table.Record.{Record}
 use Rattle.survey.specs.Steps.{no_record}
 use Rattle.survey.proofs.Counting.{cleared_more}

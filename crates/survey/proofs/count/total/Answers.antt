@@ -1,5 +1,4 @@
 use Rattle.std.proofs.Common.{◌≡◌, ℕ, suc, ◌+◌, ◌-◌, get_or, take, drop, sym, ap, ◌∙◌, arith}
-use Rattle.survey.specs.declared.table.Totals.{Totals}
 use Rattle.survey.specs.Verdicts.{counted, totals}
 use Rattle.survey.specs.Laws.{all_of}
 use Rattle.survey.specs.Steps.{no_record}

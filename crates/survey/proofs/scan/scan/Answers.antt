@@ -1,8 +1,8 @@
-use Rattle.std.proofs.Common.{◌≡◌, ℕ, ◌+◌, ◌<◌, Bool, true, false, ◌&&◌, ltb, List, length, set, Option, sym, refl, ap, ◌∙◌, arith}
+use Rattle.std.proofs.Common.{◌≡◌, ℕ, ◌+◌, ◌<◌, ◌&&◌, ltb, List, length, set, Option, sym, ap, ◌∙◌, arith}
 use Rattle.disk.specs.declared.label.Label.{Label}
 use Rattle.disk.specs.Media.{Page, Medium, label_at}
 use Rattle.survey.specs.Chains.{leads, is_leader}
-use Rattle.survey.specs.Steps.{Listed, first_record, judged_at}
+use Rattle.survey.specs.Steps.{first_record, judged_at}
 use Rattle.survey.proofs.Scanning.{scanned_more, listed_push, listed_skip, listed_as}
 use Rattle.survey.proofs.scan.scan.Goals as goal
 use Rattle.survey.proofs.scan.scan.Goals.{then-leading, else-leading}

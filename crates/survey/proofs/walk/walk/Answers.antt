@@ -1,9 +1,9 @@
-use Rattle.std.proofs.Common.{◌≡◌, ℕ, ◌<◌, ◌≤◌, true, List, length, Some, sym, refl, ap, ◌∙◌, subst, arith}
+use Rattle.std.proofs.Common.{length, sym, ap, ◌∙◌, subst, arith}
 use Rattle.disk.specs.Addresses.{page_named}
-use Rattle.disk.specs.Media.{Medium, label_at}
+use Rattle.disk.specs.Media.{Medium}
 use Rattle.survey.specs.Chains.{is_leader}
-use Rattle.survey.specs.Steps.{Walking, Linked}
-use Rattle.survey.proofs.Marking.{Turn, turn_end, turn_on, turn_less, in_table, walking_from}
+use Rattle.survey.specs.Steps.{Walking}
+use Rattle.survey.proofs.Marking.{Turn, turn_end, turn_on, turn_less, in_table}
 use Rattle.survey.proofs.walk.walk.Given as given
 use Rattle.survey.proofs.walk.walk.Goals as goal
 

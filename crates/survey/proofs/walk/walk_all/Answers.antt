@@ -1,7 +1,6 @@
-use Rattle.std.proofs.Common.{◌≡◌, ℕ, List, length, get_or, sym, ap, ◌∙◌, subst, arith}
+use Rattle.std.proofs.Common.{ℕ, get_or, ◌∙◌, subst, arith}
 use Rattle.disk.specs.Addresses.{page_named}
 use Rattle.disk.specs.Media.{Medium}
-use Rattle.survey.specs.Chains.{is_leader}
 use Rattle.survey.specs.Steps.{Marked}
 use Rattle.survey.proofs.Marking.{marked_more}
 use Rattle.survey.proofs.walk.walk_all.Goals as goal

@@ -1,5 +1,5 @@
-use Rattle.std.proofs.Common.{◌≡◌, ℕ, ◌+◌, ◌*◌, ◌%◌, ◌≤◌, length, set, sym, ap, ◌∙◌, subst, inr, arith, rules}
-use Rattle.image.specs.Images.{mark, image_medium}
+use Rattle.std.proofs.Common.{◌≡◌, ℕ, ◌+◌, ◌*◌, ◌≤◌, length, set, sym, ap, ◌∙◌, subst, inr, arith, rules}
+use Rattle.image.specs.Images.{image_medium}
 use Rattle.image.specs.Steps.{Overwritten}
 use Rattle.image.proofs.Tables.{image_shape, pages_are}
 use Rattle.image.proofs.Changes.{marked, kept_on, data_put, data_stored}

@@ -1,5 +1,5 @@
-use Rattle.std.proofs.Common.{ℕ, ◌+◌, ◌-◌, ◌*◌, ◌%◌, ◌≤◌, List, length, set, sym, ap, ◌∙◌, subst, inl, arith}
-use Rattle.image.specs.Images.{mark, image_medium}
+use Rattle.std.proofs.Common.{ℕ, ◌+◌, ◌*◌, ◌≤◌, List, length, set, sym, ap, ◌∙◌, subst, inl, arith}
+use Rattle.image.specs.Images.{image_medium}
 use Rattle.image.specs.Steps.{Overwritten}
 use Rattle.image.proofs.Tables.{image_shape, pages_are}
 use Rattle.image.proofs.Changes.{mark_small, marked, kept_on, label_put, label_stored}

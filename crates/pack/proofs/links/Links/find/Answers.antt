@@ -1,8 +1,7 @@
-use Rattle.std.proofs.Common.{◌≡◌, ℕ, ◌+◌, Bool, true, false, List, length, get_or, sym, refl, ap, ◌∙◌, subst, arith, rules}
+use Rattle.std.proofs.Common.{◌≡◌, ℕ, ◌+◌, Bool, true, false, List, sym, refl, ap, ◌∙◌, subst, arith}
 use Rattle.disk.specs.Addresses.{page_named}
 use Rattle.disk.specs.Media.{Page, Medium}
 use Rattle.survey.specs.declared.table.Record.{Record}
-use Rattle.survey.specs.Steps.{no_record}
 use Rattle.survey.specs.Chains.{follower}
 use Rattle.ledger.specs.Mends.{is_chained}
 use Rattle.pack.specs.declared.links.Links.{Links}

@@ -1,4 +1,4 @@
-use Rattle.std.proofs.Common.{◌≡◌, ℕ, List, length, sym, ap, ◌∙◌, subst, arith}
+use Rattle.std.proofs.Common.{length, ap, arith}
 use Rattle.disk.specs.Media.{Medium}
 use Rattle.survey.proofs.Following.{has_label}
 use Rattle.pack.proofs.links.Links.note.Goals as goal

@@ -1,9 +1,8 @@
-use Rattle.std.proofs.Common.{◌≡◌, ℕ, ◌≤◌, true, cond, ltb, List, length, Some, sym, refl, ap, ◌∙◌, subst, arith}
-use Rattle.disk.specs.Media.{Page, Medium, label_at}
+use Rattle.std.proofs.Common.{◌≡◌, ℕ, true, cond, ltb, List, length, Some, sym, ap, ◌∙◌, arith}
+use Rattle.disk.specs.Media.{Page, label_at}
 use Rattle.bits.specs.Bits.{taken}
 use Rattle.ledger.specs.declared.kept.PackRecord.{PackRecord}
 use Rattle.ledger.specs.Searches.{searched, free_label_at}
-use Rattle.pack.specs.Claims.{claim_record}
 use Rattle.pack.proofs.Claiming.{few, claimed_answer, claimed_record}
 use Rattle.pack.proofs.pack.Pack.claim.Goals as goal
 

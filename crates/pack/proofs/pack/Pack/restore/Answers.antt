@@ -1,8 +1,7 @@
-use Rattle.std.proofs.Common.{◌≡◌, ℕ, ◌≤◌, Bool, true, false, cond, ltb, List, length, Ok, Err, Result, sym, refl, ap, ◌∙◌, subst, arith}
+use Rattle.std.proofs.Common.{◌≡◌, ℕ, ◌≤◌, true, length, Ok, Err, Result, sym, ap, ◌∙◌, subst, arith}
 use Rattle.disk.specs.declared.refusal.Refusal.{Refusal}
 use Rattle.disk.specs.Addresses.{page_named, real_address}
-use Rattle.disk.specs.Media.{Page, Medium}
-use Rattle.survey.specs.declared.table.Record.{Record}
+use Rattle.disk.specs.Media.{Medium}
 use Rattle.survey.specs.declared.table.Totals.{Totals}
 use Rattle.survey.specs.Chains.{rivalled}
 use Rattle.survey.specs.Verdicts.{cleared}
@@ -12,7 +11,6 @@ use Rattle.ledger.specs.Plans.{Done, unready}
 use Rattle.ledger.specs.Mends.{mend_writes, mending}
 use Rattle.pack.specs.Linking.{Filled}
 use Rattle.pack.proofs.Restored.{Answered, answered, filled, cleared_again, record_is}
-use Rattle.pack.proofs.pack.Pack.restore.Given as given
 use Rattle.pack.proofs.pack.Pack.restore.Goals as goal
 
 pub mend-requires : goal.mend-requires

@@ -1,13 +1,12 @@
-use Rattle.std.proofs.Common.{◌≡◌, ℕ, ◌≤◌, Bool, true, false, cond, ltb, List, length, Result, sym, refl, ap, ◌∙◌, subst, arith}
+use Rattle.std.proofs.Common.{◌≡◌, ℕ, ◌≤◌, Bool, cond, length, Result, sym, subst, arith}
 use Rattle.std.proofs.lemmas.Bool.{le-ltb}
 use Rattle.disk.specs.declared.refusal.Refusal.{Refusal}
 use Rattle.disk.specs.declared.refusal.Reason.TheVariants.{TooSmall}
 use Rattle.disk.specs.declared.refusal.Place.TheVariants.{Pack}
 use Rattle.disk.specs.Refusals.{refusal}
 use Rattle.disk.specs.Addresses.{page_named, real_address}
-use Rattle.disk.specs.Media.{Page, Medium, spun_up}
+use Rattle.disk.specs.Media.{Medium, spun_up}
 use Rattle.disk.proofs.Naming.{conversion}
-use Rattle.survey.specs.declared.table.Record.{Record}
 use Rattle.survey.specs.declared.table.Totals.{Totals}
 use Rattle.survey.specs.Chains.{rivalled}
 use Rattle.ledger.specs.declared.kept.PackRecord.{PackRecord}
