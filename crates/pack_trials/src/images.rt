@@ -1,6 +1,6 @@
 use crate::building::{FREE, at, label_words};
 use disk::{Place, Reason, Refusal};
-use image::ImageDrive;
+use image_copy::CopyDrive;
 use pack::Pack;
 
 // The words of an image of one cylinder, with all labels and data zero.
@@ -15,7 +15,7 @@ fn one_cylinder() -> [u16; 6363] {
 #[test]
 fn format_writes_the_words_of_an_image(rt: HostRuntime) {
     let mut words = one_cylinder();
-    let mut pack = Pack::new(ImageDrive::new(&mut words));
+    let mut pack = Pack::new(CopyDrive::new(&mut words));
     assert!(rt; pack.format().is_ok());
     assert!(rt; pack.is_ready());
     let written = pack.into_drive().into_words();
@@ -31,7 +31,7 @@ fn words_that_are_no_image_stay_as_they_are(rt: HostRuntime) {
     let mut words = one_cylinder();
     // a mark that no image has
     words[6340] = 4;
-    let mut pack = Pack::new(ImageDrive::new(&mut words));
+    let mut pack = Pack::new(CopyDrive::new(&mut words));
     let refusal = Refusal::new(Reason::Hardware, Place::Drive, at(1));
     assert_eq!(rt; pack.format(), Err(refusal));
     assert!(rt; !pack.is_ready());

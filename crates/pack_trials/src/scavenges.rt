@@ -2,7 +2,8 @@ use crate::building::{
     FREE, at, damaged_pack, free_pack, junk, label_words, put_label, totals, zero,
 };
 use disk::{Place, Reason, Refusal};
-use image::{ImageDrive, ImageReader};
+use image::ImageReader;
+use image_copy::CopyDrive;
 use overlay::Overlay;
 use pack::Pack;
 use std::test::Fail;
@@ -10,7 +11,7 @@ use std::test::Fail;
 #[test]
 fn a_damaged_pack_is_mended(rt: HostRuntime) -> Result<(), Fail> {
     let mut words = damaged_pack(rt.alloc())?;
-    let mut pack = Pack::new(ImageDrive::new(words.as_mut_slice()));
+    let mut pack = Pack::new(CopyDrive::new(words.as_mut_slice()));
     let mut table = [junk(); 25];
     // the answer and the table tell what stood there before
     assert_eq!(rt; pack.scavenge(&mut table), Ok(totals(13, 6, 3, 1)));
@@ -38,7 +39,7 @@ fn a_damaged_pack_is_mended(rt: HostRuntime) -> Result<(), Fail> {
 #[test]
 fn a_second_scavenge_finds_nothing_to_mend(rt: HostRuntime) -> Result<(), Fail> {
     let mut words = damaged_pack(rt.alloc())?;
-    let mut pack = Pack::new(ImageDrive::new(words.as_mut_slice()));
+    let mut pack = Pack::new(CopyDrive::new(words.as_mut_slice()));
     let mut table = [junk(); 24];
     assert!(rt; pack.scavenge(&mut table).is_ok());
     let first = label_words(pack.into_drive().into_words(), 4);
@@ -97,7 +98,7 @@ fn a_full_overlay_cuts_a_scavenge(rt: HostRuntime) -> Result<(), Fail> {
 #[test]
 fn an_image_that_is_none_has_pages_aside(rt: HostRuntime) -> Result<(), Fail> {
     let mut words = [7u16; 10];
-    let mut pack = Pack::new(ImageDrive::new(&mut words));
+    let mut pack = Pack::new(CopyDrive::new(&mut words));
     let mut table = [junk(); 24];
     assert_eq!(rt; pack.scavenge(&mut table), Ok(totals(0, 0, 0, 23)));
     assert_eq!(rt; (pack.highest(), pack.bits_free()), (0, 0));

@@ -1,7 +1,7 @@
 use crate::problem::Problem;
 use crate::store::{Replace, check_place, store};
 use disk::Cylinders;
-use image::ImageDrive;
+use image_copy::CopyDrive;
 use pack::Pack;
 use std::alloc::{AllocError, Global};
 
@@ -36,7 +36,7 @@ pub fn make_pack(
     let n = cylinders.pages();
     println!(rt; "making a pack: cylinders {count}, pages {n}")?;
     let mut words = blank_words(rt.alloc(), cylinders)?;
-    let mut pack = Pack::new(ImageDrive::new(words.as_mut_slice()));
+    let mut pack = Pack::new(CopyDrive::new(words.as_mut_slice()));
     pack.format()?;
     let free = pack.bits_free();
     let highest = pack.highest();

@@ -2,7 +2,8 @@ use crate::load::{Steps, load};
 use crate::problem::Problem;
 use crate::survey_text::{explained, find_records, totals_text};
 use disk::Reader;
-use image::{ImageDrive, ImageReader};
+use image::ImageReader;
+use image_copy::CopyDrive;
 use pack::Pack;
 use survey::{Record, Totals, Verdict};
 
@@ -73,7 +74,7 @@ fn mend_copy(rt: &HostRuntime, words: &[u16], copy: &mut [u16]) -> Result<Found,
     let n = reader.cylinders().pages();
     println!(rt; "scavenging a copy of {n} pages")?;
     let mut records = vec![in rt.alloc(); Record::bare(Verdict::Reserved); n as usize]?;
-    let mut pack = Pack::new(ImageDrive::new(copy));
+    let mut pack = Pack::new(CopyDrive::new(copy));
     let before = match pack.scavenge(records.as_mut_slice()) {
         Ok(totals) => totals,
         Err(refusal) => return Err(explained(&mut reader, refusal)),

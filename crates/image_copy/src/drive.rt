@@ -1,0 +1,155 @@
+ghost use Rattle.std.specs.Prelude.{◌≡◌, true};
+ghost use Rattle.disk.specs.Media.{label_at, data_at, label_write, data_write, Written, spun_up};
+ghost use Rattle.image.specs.Images.{is_image, pages_in, image_medium};
+ghost use Rattle.image_copy.specs.Drives.{cylinders_if, has_pages, drive_medium, takes, goes_through, stays_on, Exactly};
+
+use crate::layout::{measure_again, opens, read_data, read_label, takes};
+use crate::storing::{put_data, put_label};
+use disk::{Cylinders, Drive, Label, PageAddress, Place, Reader, Reason, Refusal};
+
+// A drive over the words of an image, of plain fields, so that a pack can hold one by value. Over words
+// that are no image it has one cylinder that cannot be read, and turns off at each write to it.
+#[derive(Drop)]
+pub struct CopyDrive<'a> {
+    words: &'a mut [u16],
+    opened: bool,
+    on: bool,
+}
+
+impl<'a> CopyDrive<'a> {
+    pub fn new(words: &'a mut [u16]) -> CopyDrive<'a>
+        ensures words { result.words.now ≡ words.old }
+        ensures opened { result.opened ≡ is_image words.old }
+        ensures on { result.on ≡ true }
+        ensures medium { drive_medium result.opened result.on result.words.now ≡ image_medium true words.old }
+    {
+        let opened = opens(words);
+        CopyDrive {
+            words,
+            opened,
+            on: true,
+        }
+    }
+
+    // The words, as the writes have left them. Those of a steady drive are an image with its pages.
+    pub fn into_words(self) -> &'a mut [u16]
+        ensures words { result.now ≡ self.entry.words.now }
+        ensures pages { (drive_medium self.entry.opened self.entry.on self.entry.words.now).steady ≡ true → pages_in result.now ≡ (drive_medium self.entry.opened self.entry.on self.entry.words.now).pages }
+    {
+        self.give_words()
+    }
+
+    fn give_words(self) -> &'a mut [u16]
+        ensures { result.now ≡ self.entry.words.now }
+    {
+        let CopyDrive { words, .. } = self;
+        words
+    }
+
+    // Whether there are pages in the words, and how many cylinders.
+    fn measured(&self) -> (bool, Cylinders)
+        ensures pages { result.0 ≡ has_pages self.now.opened self.now.words.now }
+        ensures size { result.1.count ≡ cylinders_if (has_pages self.now.opened self.now.words.now) self.now.words.now }
+    {
+        measure_again(self.words, self.opened)
+    }
+
+    fn label(&self, page: u16) -> Option<Label>
+        ensures { result ≡ label_at (drive_medium self.now.opened self.now.on self.now.words.now).pages page }
+    {
+        let (has_pages, cylinders) = self.measured();
+        read_label(self.words, has_pages, cylinders, page)
+    }
+
+    fn data_words(&self, page: u16) -> Option<[u16; 256]>
+        ensures { result ≡ data_at (drive_medium self.now.opened self.now.on self.now.words.now).pages page }
+    {
+        let (has_pages, cylinders) = self.measured();
+        read_data(self.words, has_pages, cylinders, page)
+    }
+
+    fn takes(&self, page: u16) -> bool
+        ensures { result ≡ takes self.now.opened self.now.words.now page }
+    {
+        takes(self.words, self.opened, page)
+    }
+
+    // Whether a write to the page goes through. A page that takes no write turns the drive off.
+    fn admit(&mut self, page: u16) -> bool
+        ensures answer { result ≡ goes_through self.old.opened self.old.on self.old.words.now page }
+        ensures on { self.new.on ≡ stays_on self.old.opened self.old.on self.old.words.now page }
+        ensures words { self.new.words.now ≡ self.old.words.now }
+        ensures opened { self.new.opened ≡ self.old.opened }
+    {
+        let (_, cylinders) = self.measured();
+        if !self.on || page >= cylinders.pages() {
+            return false;
+        }
+        let takes = self.takes(page);
+        self.on = takes;
+        takes
+    }
+}
+
+impl<'a> Reader for CopyDrive<'a> {
+    ghost medium = { λ d. drive_medium d.opened d.on d.words.now };
+
+    fn cylinders(&self) -> Cylinders {
+        let (_, cylinders) = self.measured();
+        cylinders
+    }
+
+    fn read_label(&mut self, at: PageAddress) -> Option<Label>
+        ensures answer { result ≡ label_at (drive_medium self.old.opened self.old.on self.old.words.now).pages at.page }
+        ensures same { drive_medium self.new.opened self.new.on self.new.words.now ≡ drive_medium self.old.opened self.old.on self.old.words.now }
+        ensures words { self.new.words.now ≡ self.old.words.now }
+        ensures opened { self.new.opened ≡ self.old.opened }
+        ensures on { self.new.on ≡ self.old.on }
+    {
+        self.label(at.page)
+    }
+
+    fn read_data(&mut self, at: PageAddress) -> Option<[u16; 256]>
+        ensures answer { result ≡ data_at (drive_medium self.old.opened self.old.on self.old.words.now).pages at.page }
+        ensures same { drive_medium self.new.opened self.new.on self.new.words.now ≡ drive_medium self.old.opened self.old.on self.old.words.now }
+        ensures words { self.new.words.now ≡ self.old.words.now }
+        ensures opened { self.new.opened ≡ self.old.opened }
+        ensures on { self.new.on ≡ self.old.on }
+    {
+        self.data_words(at.page)
+    }
+}
+
+impl<'a> Drive for CopyDrive<'a> {
+    fn write_label(&mut self, at: PageAddress, label: Label) -> Result<(), Refusal>
+        ensures rule { Written (label_write at.page label) (drive_medium self.old.opened self.old.on self.old.words.now) result (drive_medium self.new.opened self.new.on self.new.words.now) }
+        ensures exactly { Exactly (label_write at.page label) self.old.opened self.old.on self.old.words.now result self.new.on self.new.words.now }
+        ensures opened { self.new.opened ≡ self.old.opened }
+    {
+        if !self.admit(at.page) {
+            return Err(Refusal::new(Reason::Hardware, Place::Drive, at));
+        }
+        put_label(self.words, at.page, label);
+        Ok(())
+    }
+
+    fn write_data(&mut self, at: PageAddress, words: &[u16; 256]) -> Result<(), Refusal>
+        ensures rule { Written (data_write at.page words.now) (drive_medium self.old.opened self.old.on self.old.words.now) result (drive_medium self.new.opened self.new.on self.new.words.now) }
+        ensures exactly { Exactly (data_write at.page words.now) self.old.opened self.old.on self.old.words.now result self.new.on self.new.words.now }
+        ensures opened { self.new.opened ≡ self.old.opened }
+    {
+        if !self.admit(at.page) {
+            return Err(Refusal::new(Reason::Hardware, Place::Drive, at));
+        }
+        put_data(self.words, at.page, words);
+        Ok(())
+    }
+
+    fn spin_up(&mut self)
+        ensures rule { drive_medium self.new.opened self.new.on self.new.words.now ≡ spun_up (drive_medium self.old.opened self.old.on self.old.words.now) }
+        ensures words { self.new.words.now ≡ self.old.words.now }
+        ensures opened { self.new.opened ≡ self.old.opened }
+    {
+        self.on = true;
+    }
+}

@@ -1,0 +1,8 @@
+// A drive over the words of an image, of plain fields, so that a pack can hold one by value.
+#![tactic(auto)]
+
+mod drive;
+mod layout;
+mod storing;
+
+pub use drive::CopyDrive;
