@@ -1,7 +1,7 @@
 -- The bit table of a pack: which pages are free.
 use Rattle.std.specs.Prelude.{◌≡◌, ℕ, zero, suc, ◌+◌, ◌-◌, ◌*◌, ◌/◌, ◌%◌, ◌^◌, ◌<◌, ◌≤◌, cond, ◌&&◌, ◌⊎◌, List, [], ◌∷◌, length, replicate, Some, None, sum_by, Option, ◌==◌, ◌≢◌, nat_le, slice_index, slice_set}
 use Rattle.std.specs.Int.Count.{ones, count_leading_zeros}
-use Rattle.std.specs.List.{AllByRecursion as All}
+use Rattle.std.specs.List.{AllByRecursion}
 use Rattle.disk.specs.Labels.{bit}
 
 -- The bit of page p: 0 where it is free. A word has 16 pages, the first in its leftmost bit.
@@ -53,7 +53,7 @@ zeros_in ws = sum_by (λ w. 16 - ones w) ws
 
 -- Each word of a table has 16 bits.
 abbrev pub Words : List ℕ → Type 0
-Words ws = All (λ w. w < 65536) ws
+Words ws = AllByRecursion (λ w. w < 65536) ws
 
 abbrev pub In : ℕ → List ℕ → Type 0
 In p [] = ⊥

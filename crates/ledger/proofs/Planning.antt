@@ -1,6 +1,6 @@
 -- A plan on a steady drive is a value.
 use Rattle.std.proofs.Common.{ℕ, zero, suc, ◌+◌, ◌-◌, ◌<◌, ◌≤◌, map, length, Ok, Err, Result, refl, ap, arith}
-use Rattle.std.specs.List.{range_with_len, AllByRecursion as All}
+use Rattle.std.specs.List.{range_with_len, AllByRecursion}
 use Rattle.std.proofs.ByRecursion.{All-append}
 use Rattle.disk.specs.declared.refusal.Refusal.{Refusal}
 use Rattle.disk.specs.Media.{Medium, spun_up}
@@ -16,7 +16,7 @@ planned (writes ws a after) m k (Ok b) t l d s o i = record { answer = ap {B = R
 planned (writes ws a after) m k (Err e) t l d s o i = absurd (steady_on ws m e t s o i d.0)
 
 -- All writes of a format are to pages of the pack.
-freed_inside : (n a k : ℕ) → a + k ≤ n → All (λ w. w.page < n) (map freeing (range_with_len a k))
+freed_inside : (n a k : ℕ) → a + k ≤ n → AllByRecursion (λ w. w.page < n) (map freeing (range_with_len a k))
 freed_inside n a zero h = tt
 freed_inside n a (suc k) h = (omega arith, freed_inside n (a + 1) k (omega arith))
 

@@ -1,6 +1,6 @@
 -- A scavenge by its plan: what it comes to on every drive.
 use Rattle.std.proofs.Common.{◌≡◌, ℕ, zero, suc, ◌+◌, ◌-◌, ◌<◌, ◌≤◌, Bool, true, false, cond, ltb, ◌⊎◌, List, [], ◌∷◌, length, is_ok, Some, None, Ok, Err, Option, Result, sym, refl, ap, ◌∙◌, subst, inl, inr, ⊎_elim, arith}
-use Rattle.std.specs.List.{range_with_len, AllByRecursion as All}
+use Rattle.std.specs.List.{range_with_len, AllByRecursion}
 use Rattle.std.proofs.lemmas.Bool.{lt-ltb, le-ltb, ltb-true}
 use Rattle.std.proofs.ByRecursion.{All-append}
 use Rattle.disk.specs.declared.label.Label.{Label}
@@ -30,16 +30,16 @@ use Rattle.ledger.proofs.Interrupting.{stopped_between}
 use Rattle.ledger.proofs.Keeping.{same_files, all_kept}
 
 -- All writes of a scavenge are to pages of the pack.
-relabelling_inside : (n p : ℕ) (o q : Option Label) → p < n → All (λ w. w.page < n) (relabelling p o q)
+relabelling_inside : (n p : ℕ) (o q : Option Label) → p < n → AllByRecursion (λ w. w.page < n) (relabelling p o q)
 relabelling_inside n p None q h = tt
 relabelling_inside n p (Some l) None h = tt
 relabelling_inside n p (Some l) (Some m) h = go (same_words (words_of l) (words_of m))
   where
-    go : (b : Bool) → All (λ w. w.page < n) (cond b [] (label_write p m ∷ []))
+    go : (b : Bool) → AllByRecursion (λ w. w.page < n) (cond b [] (label_write p m ∷ []))
     go true = tt
     go false = (h, tt)
 
-gathered_inside : (f : ℕ → List Write) (n a k : ℕ) → ((p : ℕ) → p < n → All (λ w. w.page < n) (f p)) → a + k ≤ n → All (λ w. w.page < n) (gathered f (range_with_len a k))
+gathered_inside : (f : ℕ → List Write) (n a k : ℕ) → ((p : ℕ) → p < n → AllByRecursion (λ w. w.page < n) (f p)) → a + k ≤ n → AllByRecursion (λ w. w.page < n) (gathered f (range_with_len a k))
 gathered_inside f n a zero h l = tt
 gathered_inside f n a (suc k) h l = All-append (λ w. w.page < n) (f a) (gathered f (range_with_len (a + 1) k)) (h a (omega arith)) (gathered_inside f n (a + 1) k h (omega arith))
 

@@ -1,6 +1,6 @@
 -- Lists of planned writes, and how a run of them on a drive may end.
 use Rattle.std.specs.Prelude.{◌≡◌, ℕ, ◌-◌, ◌<◌, true, false, ◌⊎◌, List, [], ◌∷◌, ◌++◌, map, length, is_ok, Ok, Err, Result}
-use Rattle.std.specs.List.{range_with_len, AllByRecursion as All}
+use Rattle.std.specs.List.{range_with_len, AllByRecursion}
 use Rattle.disk.specs.declared.refusal.Refusal.{Refusal}
 use Rattle.disk.specs.Refusals.{hardware}
 use Rattle.disk.specs.Labels.{free_label}
@@ -35,7 +35,7 @@ Whole ws m t = t ≡ whole ws m
 
 -- The drive has the page of each write.
 abbrev pub Inside : List Write → Medium → Type 0
-Inside ws m = All (λ w. w.page < length m.pages) ws
+Inside ws m = AllByRecursion (λ w. w.page < length m.pages) ws
 
 -- On a steady drive that is on and has all of the pages a run is a value: it ends well and does everything.
 abbrev pub Value : {A : Type 0} → List Write → Medium → Result A Refusal → Medium → Type 0

@@ -1,7 +1,7 @@
 -- Walks along any step function from numbers to numbers.
 use Rattle.std.proofs.Common.{◌≡◌, ℕ, zero, suc, ◌+◌, ◌<◌, ◌≤◌, Bool, true, false, cond, ◌||◌, eqb, ◌⊎◌, List, [], ◌∷◌, map, length, get_or, Some, None, Option, sym, refl, ap, ◌∙◌, subst, inl, inr, arith}
 use Rattle.std.specs.Option.{option_map}
-use Rattle.std.specs.List.{AllByRecursion as All}
+use Rattle.std.specs.List.{AllByRecursion}
 use Rattle.std.proofs.lemmas.Bool.{eqb-true, eqb-false, ne_eqb, eq-eqb}
 use Rattle.survey.specs.Chains.{onward, behind, is_in}
 use Rattle.survey.specs.Laws.{In, Distinct}
@@ -76,7 +76,7 @@ stepped_to f x [] l z i = absurd i
 stepped_to f x (y ∷ ys) l z (inl e) = (x, l.0 ∙ ap {B = Option ℕ} Some (sym e))
 stepped_to f x (y ∷ ys) l z (inr i) = stepped_to f y ys l.1 z i
 
-pub all_below : (f : ℕ → Option ℕ) (n : ℕ) → ((x y : ℕ) → f x ≡ Some y → y < n) → (x : ℕ) (ys : List ℕ) → Steps f x ys → All (λ y. y < n) ys
+pub all_below : (f : ℕ → Option ℕ) (n : ℕ) → ((x y : ℕ) → f x ≡ Some y → y < n) → (x : ℕ) (ys : List ℕ) → Steps f x ys → AllByRecursion (λ y. y < n) ys
 all_below f n below x [] l = tt
 all_below f n below x (y ∷ ys) l = (below x y l.0, all_below f n below y ys l.1)
 
@@ -102,11 +102,11 @@ without_distinct n (x ∷ xs) d = go (eqb x n) (without_distinct n xs d.1)
     go true k = k
     go false k = (λ i. d.0 (without_in n xs x i), k)
 
-without_below : (n : ℕ) (xs : List ℕ) → All (λ x. x < suc n) xs → All (λ x. x < n) (without n xs)
+without_below : (n : ℕ) (xs : List ℕ) → AllByRecursion (λ x. x < suc n) xs → AllByRecursion (λ x. x < n) (without n xs)
 without_below n [] a = tt
 without_below n (x ∷ xs) a = go (eqb x n) refl (without_below n xs a.1)
   where
-    go : (b : Bool) → eqb x n ≡ b → All (λ x. x < n) (without n xs) → All (λ x. x < n) (cond b (without n xs) (x ∷ without n xs))
+    go : (b : Bool) → eqb x n ≡ b → AllByRecursion (λ x. x < n) (without n xs) → AllByRecursion (λ x. x < n) (cond b (without n xs) (x ∷ without n xs))
     go true e k = k
     go false e k = (let h = eqb-false x n e in let t = a.0 in omega arith, k)
 
@@ -122,7 +122,7 @@ without_short n (x ∷ xs) d = go (eqb x n) refl (without_short n xs d.1)
     go true e k = let t : length (without n xs) ≡ length xs = ap length (without_none n xs (λ i. d.0 (subst (λ (u : ℕ). In u xs) (sym (eqb-true x n e)) i))) in omega arith
     go false e k = omega arith
 
-pub pigeonhole : (n : ℕ) (xs : List ℕ) → All (λ x. x < n) xs → Distinct xs → length xs ≤ n
+pub pigeonhole : (n : ℕ) (xs : List ℕ) → AllByRecursion (λ x. x < n) xs → Distinct xs → length xs ≤ n
 pigeonhole zero [] a d = omega arith
 pigeonhole zero (x ∷ xs) a d = let t = a.0 in absurd (omega arith)
 pigeonhole (suc n) xs a d = omega (arith, without_short n xs d, pigeonhole n (without n xs) (without_below n xs a) (without_distinct n xs d))
