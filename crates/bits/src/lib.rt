@@ -1,7 +1,7 @@
 // The bit table of a pack: one bit a page, 0 where the page is free.
 #![tactic(auto)]
 
-ghost use Rattle.std.specs.Prelude.{◌≡◌, ◌-◌, ◌<◌, ◌≤◌, min, ◌&&◌, ltb, if◌then◌else◌, ◌==◌, nat_lt};
+ghost use Rattle.std.specs.Prelude.{◌≡◌, ◌-◌, ◌<◌, ◌≤◌, min, ◌&&◌, if◌then◌else◌, ◌==◌, nat_lt};
 ghost use Rattle.std.specs.Option.{option_map};
 ghost use Rattle.bits.specs.Bits.{page_bit, taken, freed, none_free, first_free, round_free, start_page, ones_in, zeros_in, Run, BitLaws};
 
@@ -32,7 +32,7 @@ impl BitTable {
 
     // Marks the page as not free.
     pub fn take(&mut self, at: PageAddress)
-        ensures { self.new.words ≡ (if ltb at.page 9744 then taken self.old.words at.page else self.old.words) }
+        ensures { self.new.words ≡ (if nat_lt at.page 9744 then taken self.old.words at.page else self.old.words) }
     {
         if at.page < PAGES {
             self.words[at.page as usize / 16] |= 0x8000 >> (at.page % 16);
@@ -41,7 +41,7 @@ impl BitTable {
 
     // Marks the page as free.
     pub fn free(&mut self, at: PageAddress)
-        ensures { self.new.words ≡ (if ltb at.page 9744 then freed self.old.words at.page else self.old.words) }
+        ensures { self.new.words ≡ (if nat_lt at.page 9744 then freed self.old.words at.page else self.old.words) }
     {
         if at.page < PAGES {
             self.words[at.page as usize / 16] &= !(0x8000 >> (at.page % 16));

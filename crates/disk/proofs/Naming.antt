@@ -3,7 +3,7 @@ use Rattle.std.proofs.Common.{◌≡◌, ℕ, ◌+◌, ◌*◌, ◌/◌, ◌%◌
 use Rattle.std.proofs.lemmas.Bool.{le-leb, lt-ltb, and_from, and_parts, leb-true, ltb-true, eqb-true}
 use Rattle.disk.specs.Addresses.{sector, track, head, disk_and_restore, names_a_page, page_named, real_address, Conversion, AddressExamples}
 
--- The parts of the word that real-address makes.
+-- The parts of the word that real_address makes.
 abbrev made : ℕ → ℕ
 made p = 4096 * (p % 12) + 8 * (p / 24) + 4 * (p / 12 % 2)
 

@@ -1,5 +1,5 @@
 -- What the parts of a scavenge say to each other.
-use Rattle.std.specs.Prelude.{◌≡◌, ℕ, ◌-◌, ◌<◌, ◌≤◌, Bool, true, false, ◌&&◌, List, length, get_or, Some, None, filter, Option, ◌==◌, slice_index, slice_index_or, slice_set}
+use Rattle.std.specs.Prelude.{◌≡◌, ℕ, ◌-◌, ◌<◌, ◌≤◌, Bool, true, false, ◌&&◌, List, length, Some, None, filter, Option, ◌==◌, slice_index, slice_index_or, slice_set}
 use Rattle.std.specs.List.{range_with_len}
 use Rattle.disk.specs.Media.{Page}
 use Rattle.survey.specs.declared.table.Record.{Record}
@@ -52,4 +52,4 @@ pub record LinksFound (name : Naming) (ps : List Page) (behind ahead : List ℕ)
 
 -- The pages above 0 of a pack of n pages that end free, by a table.
 abbrev pub freed_in : List Record → ℕ → List ℕ
-freed_in ts n = filter (λ p. ends_free (get_or ts p no_record).verdict) (range_with_len 1 (n - 1))
+freed_in ts n = filter (λ p. ends_free (slice_index_or ts p no_record).verdict) (range_with_len 1 (n - 1))

@@ -1,4 +1,4 @@
-// Tests of packs over image drives and overlays, from outside their crates.
+// Tests of packs over copies of images and overlays, from outside their crates.
 #![tactic(auto)]
 
 #[cfg(test)]

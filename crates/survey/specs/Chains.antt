@@ -1,6 +1,6 @@
 -- Leaders, rivals, what follows what, and chains: functions of the pages of a pack and of the
 -- naming of its pages by real addresses.
-use Rattle.std.specs.Prelude.{ℕ, zero, suc, ◌+◌, ◌-◌, Bool, false, cond, not, ◌&&◌, ◌||◌, ltb, List, [], ◌∷◌, length, Some, None, Option, ◌==◌, nat_lt}
+use Rattle.std.specs.Prelude.{ℕ, zero, suc, ◌+◌, ◌-◌, Bool, false, cond, not, ◌&&◌, ◌||◌, List, [], ◌∷◌, length, Some, None, Option, ◌==◌, nat_lt}
 use Rattle.std.specs.List.{range_with_len}
 use Rattle.disk.specs.declared.label.Label.{Label}
 use Rattle.disk.specs.declared.label.FileId.{FileId}
@@ -36,7 +36,7 @@ kept_if test (Some p) = cond (test p) (Some p) None
 -- next names a page above 0.
 abbrev pub points : Naming → Option Label → Option ℕ
 points name None = None
-points name (Some l) = cond (l.characters == 512) (kept_if (ltb 0) (name l.next.word)) None
+points name (Some l) = cond (l.characters == 512) (kept_if (nat_lt 0) (name l.next.word)) None
 
 -- Whether a page with the second label goes on where one with the first ends: a file label of the
 -- same file id with a page number one higher.
@@ -98,4 +98,4 @@ abbrev pub rival_of : List Page → ℕ → ℕ
 rival_of ps p = first_of (are_rivals ps p) (pages_above ps)
 
 unfoldable pub rivalled : List Page → ℕ
-rivalled ps = first_of (λ p. ltb 0 (rival_of ps p)) (pages_above ps)
+rivalled ps = first_of (λ p. nat_lt 0 (rival_of ps p)) (pages_above ps)

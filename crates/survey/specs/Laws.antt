@@ -1,5 +1,5 @@
 -- What is proved of chains and verdicts, in the subject's words.
-use Rattle.std.specs.Prelude.{◌≡◌, ℕ, ◌+◌, ◌<◌, ◌≤◌, true, ◌⊎◌, List, [], ◌∷◌, length, Some, slice_index}
+use Rattle.std.specs.Prelude.{◌≡◌, ◌≢◌, ℕ, ◌+◌, ◌<◌, ◌≤◌, true, ◌⊎◌, List, [], ◌∷◌, length, Some, slice_index}
 use Rattle.disk.specs.declared.label.Label.{Label}
 use Rattle.disk.specs.Labels.{is_file, id_of}
 use Rattle.disk.specs.Media.{Page, label_at}
@@ -46,7 +46,7 @@ pub data Reached (name : Naming) (ps : List Page) (q : ℕ) : ℕ → Type 0 whe
 
 -- Two leaders of one file id.
 pub record RivalsStand (ps : List Page) (p q : ℕ) : Type 0 where
-  pub apart : p ≡ q → ⊥
+  pub apart : p ≢ q
   pub one : Leader ps p
   pub two : Leader ps q
   pub same_file : id_of one.label ≡ id_of two.label

@@ -1,5 +1,5 @@
 -- What the parts of a survey do, one after the other.
-use Rattle.std.specs.Prelude.{◌≡◌, ℕ, ◌<◌, ◌≤◌, Bool, true, false, cond, ◌⊎◌, List, get_or, Some, None, Option, nat_lt, slice_index, slice_index_or}
+use Rattle.std.specs.Prelude.{◌≡◌, ℕ, ◌<◌, ◌≤◌, Bool, true, false, cond, ◌⊎◌, List, Some, None, Option, nat_lt, slice_index, slice_index_or}
 use Rattle.disk.specs.declared.address.PageAddress.{PageAddress}
 use Rattle.disk.specs.declared.label.Label.{Label}
 use Rattle.disk.specs.Media.{Page, label_at}
@@ -35,7 +35,7 @@ pub record Listed (ps : List Page) (i k : ℕ) (ls : List ℕ) : Type 0 where
 
 -- Whether the i-th and the j-th page of a list have one file id in the table.
 abbrev pub alike : List Record → List ℕ → ℕ → ℕ → Bool
-alike ts ls i j = same_file (get_or ts (slice_index ls i) no_record).id (get_or ts (slice_index ls j) no_record).id
+alike ts ls i j = same_file (slice_index_or ts (slice_index ls i) no_record).id (slice_index_or ts (slice_index ls j) no_record).id
 
 -- The first page behind the i-th that is like it, by its place in the list.
 pub record Match (ts : List Record) (ls : List ℕ) (i k j : ℕ) : Type 0 where
@@ -52,8 +52,8 @@ Matched ts ls i k (Some j) = Match ts ls i k j
 pub record Pair (ts : List Record) (ls : List ℕ) (k a b : ℕ) : Type 0 where
   pub i : ℕ
   pub j : ℕ
-  pub is_a : get_or ls i 0 ≡ a
-  pub is_b : get_or ls j 0 ≡ b
+  pub is_a : slice_index ls i ≡ a
+  pub is_b : slice_index ls j ≡ b
   pub match : Match ts ls i k j
   pub none_before : (g h : ℕ) → g < i → g < h → h < k → alike ts ls g h ≡ false
 

@@ -192,7 +192,7 @@ fn obey(rt: &HostRuntime, words: &[String]) -> Result<(), Failed> {
         return unknown(rt);
     };
     match first.as_str() {
-        "help" => {
+        "help" if words.len() == 1 => {
             let _ = rt.print(USAGE);
             Ok(())
         }
