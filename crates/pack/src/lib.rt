@@ -1,4 +1,4 @@
-// A pack in a drive: its record, claims on free pages, and format.
+// A pack in a drive: its record, claims on free pages, format and the scavenge.
 #![tactic(auto)]
 
 mod claim;

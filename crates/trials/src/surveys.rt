@@ -289,7 +289,7 @@ fn page_of(table: &[Record], leader: u16, number: u16) -> Option<usize> {
 }
 
 // A pack with a file of three pages and a stray tells the same wherever they lie.
-fn check_moved(rt: &impl Abort, heap: Global, pages: [u16; 4]) -> Result<(), Fail> {
+fn check_moved(rt: &impl Abort, heap: Global, pages: [u16; 4], i: usize) -> Result<(), Fail> {
     let [a, b, c, d] = pages;
     let placed = [
         full(a, b, 0, 7),
@@ -301,7 +301,7 @@ fn check_moved(rt: &impl Abort, heap: Global, pages: [u16; 4]) -> Result<(), Fai
     let mut table = [junk(); 24];
     let answer = survey(&mut ImageReader::new(&words), &mut table);
     assert_eq!(rt; answer, Ok(totals([1, 19, 3, 1, 0])));
-    check_told(rt, &table, stray(d as usize, 1), 0);
+    check_told(rt, &table, stray(d as usize, 1), i);
     assert_eq!(rt; page_of(&table, a, 0), Some(a as usize));
     assert_eq!(rt; page_of(&table, a, 1), Some(b as usize));
     assert_eq!(rt; page_of(&table, a, 2), Some(c as usize));
@@ -317,8 +317,8 @@ fn a_file_is_the_same_wherever_its_pages_lie(rt: HostRuntime) -> Result<(), Fail
         [23, 22, 21, 1],
         [11, 12, 13, 14],
     ];
-    for pages in moves {
-        check_moved(&rt, rt.alloc(), pages)?;
+    for (i, pages) in moves.iter().enumerate() {
+        check_moved(&rt, rt.alloc(), *pages, i)?;
     }
     Ok(())
 }
