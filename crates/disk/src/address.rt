@@ -6,19 +6,20 @@ use crate::cylinders::Cylinders;
 
 // Where a page lies as the hardware and the labels say it: sector in the leftmost four bits, then
 // nine bits of track, one of head, one of disk and one of restore.
-#[derive(Clone, Copy, PartialEq, Eq, Debug)]
+#[derive(Clone, Copy, PartialEq, Eq, Debug, Default)]
 pub struct RealAddress {
     pub word: u16,
 }
 
 // A page by its place in the pack, from 0.
-#[derive(Clone, Copy, PartialEq, Eq, PartialOrd, Ord, Debug)]
+#[derive(Clone, Copy, PartialEq, Eq, PartialOrd, Ord, Debug, Default)]
 pub struct PageAddress {
     pub page: u16,
 }
 
 impl RealAddress {
     // The page that the address names, if it names one.
+    #[tactic(auto, unfolding(crate::specs::Addresses::page_named))]
     pub fn page(self, cylinders: Cylinders) -> Option<PageAddress>
         ensures value { option_map (λ a. a.page) result ≡ page_named cylinders.count self.word }
         ensures inverse { Conversion cylinders.count }
@@ -38,6 +39,7 @@ impl RealAddress {
 
 impl PageAddress {
     // The address by which labels name the page; none where the pack has no such page.
+    #[tactic(auto, unfolding(crate::specs::Addresses::real_address))]
     pub fn real(self, cylinders: Cylinders) -> Option<RealAddress>
         ensures value { option_map (λ a. a.word) result ≡ real_named cylinders.count self.page }
         ensures inverse { Conversion cylinders.count }

@@ -10,7 +10,7 @@ pub struct Cylinders {
 impl Cylinders {
     // None for a number that no pack has.
     pub fn new(count: u16) -> Option<Cylinders>
-        ensures { MatchOption result ((1 ≤ count → count ≤ 406 → ⊥)) (λ c. c.count ≡ count) }
+        ensures { MatchOption result (1 ≤ count → count ≤ 406 → ⊥) (λ c. c.count ≡ count) }
     {
         if 1 <= count && count <= 406 {
             Some(Cylinders { count })

@@ -4,7 +4,7 @@ ghost use Rattle.disk.specs.Labels.{directory_mark, random_mark, serial_number, 
 use crate::address::RealAddress;
 
 // What tells one file from another: the last three words of a label.
-#[derive(Clone, Copy, PartialEq, Eq, Debug)]
+#[derive(Clone, Copy, PartialEq, Eq, Debug, Default)]
 pub struct FileId {
     pub version: u16,
     pub serial1: u16,
@@ -134,14 +134,7 @@ impl Label {
     pub fn is_free(self) -> bool
         ensures { result ≡ is_free self }
     {
-        self.next.word == 0
-            && self.previous.word == 0
-            && self.blank == 0
-            && self.characters == 0
-            && self.number == 0
-            && self.version == 65535
-            && self.serial1 == 65535
-            && self.serial2 == 65535
+        self == Label::free()
     }
 
     // Whether the label may belong to a file: not the free one, not marked random, and with no
@@ -150,6 +143,22 @@ impl Label {
         ensures { result ≡ is_file self }
     {
         !self.is_free() && !self.id().is_random() && self.characters <= 512
+    }
+}
+
+impl From<[u16; 8]> for Label {
+    ghost from_gives = { λ words label. label ≡ label_of words };
+
+    fn from(words: [u16; 8]) -> Label {
+        Label::from_words(words)
+    }
+}
+
+impl From<Label> for [u16; 8] {
+    ghost from_gives = { λ label words. words ≡ words_of label };
+
+    fn from(label: Label) -> [u16; 8] {
+        label.to_words()
     }
 }
 

@@ -6,9 +6,11 @@ mod cylinders;
 mod drive;
 mod label;
 mod refusal;
+mod size;
 
 pub use address::{PageAddress, RealAddress, address_examples};
 pub use cylinders::Cylinders;
 pub use drive::{Drive, Reader};
 pub use label::{FileId, Label, label_words};
 pub use refusal::{Place, Reason, Refusal};
+pub use size::NoSuchSize;

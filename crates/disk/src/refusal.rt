@@ -94,6 +94,14 @@ impl Place {
     }
 }
 
+impl fmt::Display for Place {
+    ghost output = { λ x. Some (place_name x) };
+
+    fn fmt<W: fmt::Write>(&self, f: &mut fmt::Formatter<W>) -> fmt::Result {
+        f.write_str(self.name())
+    }
+}
+
 // A refusal: why, where, and at which page, or at which two.
 #[derive(Clone, Copy, PartialEq, Eq, Debug)]
 pub struct Refusal {
@@ -138,7 +146,7 @@ impl fmt::Display for Refusal {
 
     fn fmt<W: fmt::Write>(&self, f: &mut fmt::Formatter<W>) -> fmt::Result {
         let number = self.number();
-        let place = self.place.name();
+        let place = self.place;
         let page = self.page.page;
         let meaning = self.reason.meaning(self.place);
         match self.other {
