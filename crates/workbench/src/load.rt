@@ -6,7 +6,7 @@ use std::fs;
 const LARGEST: u64 = 5164326;
 
 // Whether a command prints the steps that it takes.
-#[derive(Clone, Copy)]
+#[derive(Clone, Copy, PartialEq, Eq)]
 pub enum Steps {
     Told,
     Silent,
@@ -15,9 +15,8 @@ pub enum Steps {
 impl Steps {
     // Prints a step, if steps are told.
     pub fn say(self, rt: &HostRuntime, step: &str) -> Result<(), Problem> {
-        match self {
-            Steps::Told => rt.println(step)?,
-            Steps::Silent => {}
+        if self == Steps::Told {
+            rt.println(step)?;
         }
         Ok(())
     }
@@ -25,13 +24,15 @@ impl Steps {
 
 // Why the words are no image, where they are none.
 fn flaw(words: &[u16]) -> Flaw {
-    let Some(first) = words.get(0).copied() else {
+    let Some(first) = words.first().copied() else {
         return Flaw::Empty;
     };
     let n = first as usize;
-    if words.len() != 3 + 265 * n {
+    let wanted = 3 + 265 * n;
+    if words.len() != wanted {
         return Flaw::Length {
             pages: first,
+            wanted,
             words: words.len(),
         };
     }
@@ -43,10 +44,9 @@ fn flaw(words: &[u16]) -> Flaw {
     if third != first {
         return Flaw::ThirdCount { first, third };
     }
-    for p in 0..n {
-        let mark = words[3 + 264 * n + p];
+    for (page, mark) in words[3 + 264 * n..].iter().copied().enumerate() {
         if mark > 3 {
-            return Flaw::Mark { page: p, mark };
+            return Flaw::Mark { page, mark };
         }
     }
     Flaw::Size { pages: first }
@@ -79,16 +79,15 @@ pub fn load(rt: &HostRuntime, path: &str, steps: Steps) -> Result<Vec<u16>, Prob
     let words = read_words(rt, path)?;
     let count = words.len();
     steps.say(rt, format!(in heap; "read {count} words")?.as_str())?;
-    match open_image(words.as_slice()) {
-        Ok(cylinders) => {
-            let c = cylinders.count();
-            let n = cylinders.pages();
-            steps.say(
-                rt,
-                format!(in heap; "opened: cylinders {c}, pages {n}")?.as_str(),
-            )?;
-            Ok(words)
-        }
-        Err(refusal) => Err(Problem::NoImage(refusal, flaw(words.as_slice()))),
-    }
+    let cylinders = open_image(words.as_slice()).map_err(|refusal| Problem::NoImage(
+        refusal,
+        flaw(words.as_slice()),
+    ))?;
+    let c = cylinders.count();
+    let n = cylinders.pages();
+    steps.say(
+        rt,
+        format!(in heap; "opened: cylinders {c}, pages {n}")?.as_str(),
+    )?;
+    Ok(words)
 }

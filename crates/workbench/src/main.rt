@@ -15,12 +15,12 @@ mod usage;
 use make::make_pack;
 use map::show_map;
 use mend::mend_image;
-use output::{Output, is_same_path, output_of, word_at};
+use output::{Output, is_same_path, output_of};
 use pages::show_pages;
 use problem::Problem;
 use std::env;
 use std::process::ExitCode;
-use store::{Replace, check_apart, check_place, store};
+use store::Target;
 use survey_text::{show_survey, show_table};
 use usage::USAGE;
 
@@ -67,14 +67,11 @@ fn run(rt: &HostRuntime, command: Command, path: &str) -> Result<(), Problem> {
 }
 
 // Says in one line why work on a file failed, if it did.
-fn told(rt: &HostRuntime, res: Result<(), Problem>, path: &str) -> Result<(), Failed> {
-    match res {
-        Ok(()) => Ok(()),
-        Err(problem) => {
-            let _ = eprintln!(rt; "{problem}: {path}");
-            Err(Failed)
-        }
-    }
+fn told<T: Drop>(rt: &HostRuntime, outcome: Result<T, Problem>, path: &str) -> Result<T, Failed> {
+    outcome.map_err(|problem| {
+        let _ = eprintln!(rt; "{problem}: {path}");
+        Failed
+    })
 }
 
 // Runs a command, and says in one line why it failed, if it did.
@@ -88,83 +85,64 @@ fn unknown(rt: &HostRuntime) -> Result<(), Failed> {
     Err(Failed)
 }
 
-// The number that a word of the command line is.
-fn number_at(words: &[String], at: usize) -> Option<u16> {
-    let word = words.get(at)?;
-    word.as_str().parse::<u16>().ok()
-}
-
 // Obeys a command that tells of an image.
 fn obey_tell(rt: &HostRuntime, words: &[String]) -> Result<(), Failed> {
-    if words.len() == 2 {
-        if let Some(command) = command_of(words[0].as_str()) {
-            let path = words[1].as_str();
-            return attempt(rt, command, path);
+    let command = match words {
+        [word, _] => command_of(word.as_str()),
+        [word, _, option, page] if word.as_str() == "map" && option.as_str() == "--file" => {
+            page.as_str()
+                .parse()
+                .ok()
+                .map(|page| Command::Map(Some(page)))
         }
+        _ => None,
+    };
+    match (command, words.get(1)) {
+        (Some(command), Some(path)) => attempt(rt, command, path.as_str()),
+        _ => unknown(rt),
     }
-    if words.len() == 4 && words[0].as_str() == "map" && words[2].as_str() == "--file" {
-        if let Some(page) = number_at(words, 3) {
-            let path = words[1].as_str();
-            return attempt(rt, Command::Map(Some(page)), path);
-        }
-    }
-    unknown(rt)
 }
 
 // Obeys `format CYLINDERS OUT [--force]`.
-fn obey_format(rt: &HostRuntime, words: &[String]) -> Result<(), Failed> {
-    let Some(count) = number_at(words, 1) else {
+fn obey_format(rt: &HostRuntime, count: &str, options: &[String]) -> Result<(), Failed> {
+    let (Ok(count), Some(output)) = (count.parse::<u16>(), output_of(options)) else {
         return unknown(rt);
     };
-    let Some(output) = output_of(words, 2) else {
-        return unknown(rt);
-    };
-    match word_at(words, output.at) {
-        Some(path) if !output.dry_run => {
-            told(rt, make_pack(rt, count, path, output.replace), path)
-        }
+    match output.target() {
+        Some(target) if !output.dry_run => { told(rt, make_pack(rt, count, target), target.path) }
         _ => unknown(rt),
     }
 }
 
 // Where a mended image may go: to a file other than the one that is read.
-fn check_other(rt: &HostRuntime, image: &str, path: &str, replace: Replace) -> Result<(), Problem> {
-    if is_same_path(image, path) {
+fn check_other(rt: &HostRuntime, image: &str, target: Target<'_>) -> Result<(), Problem> {
+    if is_same_path(image, target.path) {
         return Err(Problem::SameFile);
     }
-    check_place(rt, path, replace)
+    target.check(rt)
 }
 
 // Writes a mended image.
 fn put_away(
     rt: &HostRuntime,
     image: &str,
-    path: &str,
+    target: Target<'_>,
     words: &[u16],
-    replace: Replace,
 ) -> Result<(), Problem> {
-    check_apart(rt, image, path)?;
-    store(rt, path, words, replace)
+    target.check_apart(rt, image)?;
+    target.store(rt, words)
 }
 
 // Scavenges an image, and writes the mended one where that is asked for.
-fn scavenge(
-    rt: &HostRuntime,
-    image: &str,
-    path: Option<&str>,
-    output: Output,
-) -> Result<(), Failed> {
-    if let Some(path) = path {
-        told(rt, check_other(rt, image, path, output.replace), path)?;
+fn scavenge(rt: &HostRuntime, image: &str, output: Output<'_>) -> Result<(), Failed> {
+    if let Some(target) = output.target() {
+        told(rt, check_other(rt, image, target), target.path)?;
     }
-    let words = match mend_image(rt, image) {
-        Ok(words) => words,
-        Err(problem) => return told(rt, Err(problem), image),
-    };
-    match path {
-        Some(path) if !output.dry_run => {
-            let stored = put_away(rt, image, path, words.as_slice(), output.replace);
-            told(rt, stored, path)
+    let words = told(rt, mend_image(rt, image), image)?;
+    match output.target() {
+        Some(target) if !output.dry_run => {
+            let stored = put_away(rt, image, target, words.as_slice());
+            told(rt, stored, target.path)
         }
         _ => {
             let _ = rt.println("dry run: nothing is written");
@@ -174,30 +152,26 @@ fn scavenge(
 }
 
 // Obeys `scavenge IMAGE OUT [--force] [--dry-run]`; a dry run needs no OUT.
-fn obey_scavenge(rt: &HostRuntime, words: &[String]) -> Result<(), Failed> {
-    let Some(image) = word_at(words, Some(1)) else {
-        return unknown(rt);
-    };
-    let Some(output) = output_of(words, 2) else {
-        return unknown(rt);
-    };
-    if image.starts_with("--") || output.at.is_none() && !output.dry_run {
-        return unknown(rt);
+fn obey_scavenge(rt: &HostRuntime, image: &str, options: &[String]) -> Result<(), Failed> {
+    match output_of(options) {
+        Some(output) if !image.starts_with("--") && (output.target().is_some() || output.dry_run) =>
+            { scavenge(rt, image, output) }
+        _ => unknown(rt),
     }
-    scavenge(rt, image, word_at(words, output.at), output)
 }
 
 fn obey(rt: &HostRuntime, words: &[String]) -> Result<(), Failed> {
-    let Some(first) = words.get(0) else {
-        return unknown(rt);
-    };
-    match first.as_str() {
-        "help" if words.len() == 1 => {
+    match words {
+        [help] if help.as_str() == "help" => {
             let _ = rt.print(USAGE);
             Ok(())
         }
-        "format" => obey_format(rt, words),
-        "scavenge" => obey_scavenge(rt, words),
+        [format, count, options @ ..] if format.as_str() == "format" => {
+            obey_format(rt, count.as_str(), options)
+        }
+        [scavenge, image, options @ ..] if scavenge.as_str() == "scavenge" => {
+            obey_scavenge(rt, image.as_str(), options)
+        }
         _ => obey_tell(rt, words),
     }
 }

@@ -1,5 +1,5 @@
 use crate::problem::Problem;
-use crate::store::{Replace, check_place, store};
+use crate::store::Target;
 use disk::Cylinders;
 use image_copy::CopyDrive;
 use pack::Pack;
@@ -23,16 +23,9 @@ fn blank_words(heap: Global, cylinders: Cylinders) -> Result<Vec<u16>, AllocErro
 }
 
 // Makes the image of a new pack.
-pub fn make_pack(
-    rt: &HostRuntime,
-    count: u16,
-    path: &str,
-    replace: Replace,
-) -> Result<(), Problem> {
-    let Some(cylinders) = Cylinders::new(count) else {
-        return Err(Problem::NoSuchPack(count));
-    };
-    check_place(rt, path, replace)?;
+pub fn make_pack(rt: &HostRuntime, count: u16, target: Target<'_>) -> Result<(), Problem> {
+    let cylinders = Cylinders::try_from(count)?;
+    target.check(rt)?;
     let n = cylinders.pages();
     println!(rt; "making a pack: cylinders {count}, pages {n}")?;
     let mut words = blank_words(rt.alloc(), cylinders)?;
@@ -41,5 +34,5 @@ pub fn make_pack(
     let free = pack.bits_free();
     let highest = pack.highest();
     println!(rt; "formatted: free {free}, highest serial number {highest}")?;
-    store(rt, path, pack.into_drive().into_words(), replace)
+    target.store(rt, pack.into_drive().into_words())
 }

@@ -1,3 +1,5 @@
+ghost use Rattle.std.specs.Prelude.{◌≤◌};
+
 use crate::load::{Steps, load};
 use crate::problem::Problem;
 use crate::survey_text::find_records;
@@ -5,28 +7,25 @@ use image::ImageReader;
 use std::alloc::{AllocError, Global};
 use survey::{Record, Verdict};
 
-const SMALL: [char; 26] = [
-    'a', 'b', 'c', 'd', 'e', 'f', 'g', 'h', 'i', 'j', 'k', 'l', 'm', 'n', 'o', 'p', 'q', 'r', 's',
-    't', 'u', 'v', 'w', 'x', 'y', 'z',
-];
+// The letter with that number from a first one on, and after the 26th that one again.
+fn letter(first: u8, order: usize) -> char
+    requires { first ≤ 97 }
+{
+    char::from(first + (order % 26) as u8)
+}
 
-const LARGE: [char; 26] = [
-    'A', 'B', 'C', 'D', 'E', 'F', 'G', 'H', 'I', 'J', 'K', 'L', 'M', 'N', 'O', 'P', 'Q', 'R', 'S',
-    'T', 'U', 'V', 'W', 'X', 'Y', 'Z',
-];
-
-const DIGITS: [char; 10] = ['0', '1', '2', '3', '4', '5', '6', '7', '8', '9'];
+// The last digit of a number.
+fn last_digit(number: u16) -> char {
+    char::from(b'0' + (number % 10) as u8)
+}
 
 // Whether a record is that of a leader.
 fn is_leader(record: &Record) -> bool {
-    match record.verdict {
-        Verdict::Chained => record.number == 0,
-        _ => false,
-    }
+    record.verdict == Verdict::Chained && record.number == 0
 }
 
 // For each page, which file in the order of their leaders it would begin.
-fn file_orders(heap: Global, records: &[Record]) -> Result<Vec<usize>, Problem> {
+fn file_orders(heap: Global, records: &[Record]) -> Result<Vec<usize>, AllocError> {
     let mut orders = Vec::new(heap);
     let mut next = 0usize;
     for record in records {
@@ -47,13 +46,7 @@ fn mark(record: &Record, orders: &[usize]) -> char {
     match record.verdict {
         Verdict::Reserved => '0',
         Verdict::Free => '.',
-        Verdict::Chained => {
-            if record.number == 0 {
-                LARGE[order % 26]
-            } else {
-                SMALL[order % 26]
-            }
-        }
+        Verdict::Chained => letter(if record.number == 0 { b'A' } else { b'a' }, order),
         Verdict::Stray => '?',
         Verdict::Aside => '!',
     }
@@ -64,62 +57,44 @@ fn mark_of_file(record: &Record, leader: u16) -> char {
     match record.verdict {
         Verdict::Reserved => ':',
         Verdict::Free => '.',
-        Verdict::Chained => {
-            if record.leader.page == leader {
-                DIGITS[record.number as usize % 10]
-            } else {
-                '-'
-            }
-        }
+        Verdict::Chained if record.leader.page == leader => last_digit(record.number),
+        Verdict::Chained => '-',
         Verdict::Stray => '?',
         Verdict::Aside => '!',
     }
 }
 
-// A row for each cylinder.
-fn rows(
+// A row for each cylinder, of the characters that its pages are marked with.
+fn rows<F: Fn(&Record) -> char>(
     heap: Global,
     records: &[Record],
-    orders: &[usize],
-    file: Option<u16>,
-) -> Result<String, AllocError> {
+    mark: F,
+) -> Result<String, AllocError>
+    requires { F.IsAlwaysCallable mark }
+{
     let mut text = String::new(heap);
-    for (p, record) in records.iter().enumerate() {
-        if p % 24 == 0 {
-            let cylinder = p / 24;
-            text.push_str(format!(in heap; "{cylinder:>3} ")?.as_str())?;
+    for (cylinder, pages) in records.chunks(24).enumerate() {
+        text.push_str(format!(in heap; "{cylinder:>3} ")?.as_str())?;
+        for record in pages {
+            text.push(mark(record))?;
         }
-        match file {
-            Some(leader) => text.push(mark_of_file(record, leader))?,
-            None => text.push(mark(record, orders))?,
-        }
-        if p % 24 == 23 {
-            text.push('\n')?;
-        }
+        text.push('\n')?;
     }
     Ok(text)
 }
 
-// The page of a file that has a number, if there is one.
-fn numbered(records: &[Record], leader: u16, number: usize) -> Option<usize> {
-    for (p, record) in records.iter().enumerate() {
-        if let Verdict::Chained = record.verdict {
-            if record.leader.page == leader && record.number as usize == number {
-                return Some(p);
-            }
-        }
-    }
-    None
-}
-
 // The pages of a file in their order.
 fn file_line(heap: Global, records: &[Record], leader: u16) -> Result<String, AllocError> {
-    let mut text = format!(in heap; "pages of the file at {leader}, in order:")?;
-    for number in 0..records.len() {
-        match numbered(records, leader, number) {
-            Some(p) => text.push_str(format!(in heap; " {p}")?.as_str())?,
-            None => break,
+    let mut pages = Vec::new(heap);
+    for (page, record) in records.iter().enumerate() {
+        if record.verdict == Verdict::Chained && record.leader.page == leader {
+            pages.push((record.number, page))?;
         }
+    }
+    pages.sort_unstable();
+    let mut text = format!(in heap; "pages of the file at {leader}, in order:")?;
+    for (_, page) in &pages {
+        text.push_str(format!(in heap; " {page}")?.as_str())?;
     }
     text.push('\n')?;
     Ok(text)
@@ -128,10 +103,7 @@ fn file_line(heap: Global, records: &[Record], leader: u16) -> Result<String, Al
 // The leader of the file that a page is in.
 fn leader_of(records: &[Record], page: u16) -> Option<u16> {
     let record = records.get(page as usize)?;
-    match record.verdict {
-        Verdict::Chained => Some(record.leader.page),
-        _ => None,
-    }
+    (record.verdict == Verdict::Chained).then_some(record.leader.page)
 }
 
 fn show_all(rt: &HostRuntime, records: &[Record]) -> Result<(), Problem> {
@@ -141,7 +113,7 @@ fn show_all(rt: &HostRuntime, records: &[Record]) -> Result<(), Problem> {
     rt.println(
         "A leader and its pages a, the next file's B and b, and so on, after Z and z again A and a",
     )?;
-    rt.print(rows(heap, records, orders.as_slice(), None)?)?;
+    rt.print(rows(heap, records, |record| mark(record, orders.as_slice()))?)?;
     Ok(())
 }
 
@@ -152,7 +124,7 @@ fn show_file(rt: &HostRuntime, records: &[Record], page: u16) -> Result<(), Prob
     };
     rt.println(": reserved, . free, ? stray, ! label unreadable, - a page of another file;")?;
     rt.println("a digit: a page of this file, by the last digit of its page number, the leader 0")?;
-    rt.print(rows(heap, records, &[], Some(leader))?)?;
+    rt.print(rows(heap, records, |record| mark_of_file(record, leader))?)?;
     rt.print(file_line(heap, records, leader)?)?;
     Ok(())
 }

@@ -1,6 +1,6 @@
 use crate::load::{Steps, load};
 use crate::problem::Problem;
-use crate::survey_text::{explained, find_records, totals_text};
+use crate::survey_text::{TotalsLine, explained, find_records};
 use disk::Reader;
 use image::ImageReader;
 use image_copy::CopyDrive;
@@ -9,11 +9,11 @@ use survey::{Record, Totals, Verdict};
 
 // What a scavenge altered: links of chained pages, the pages that these are on, and stray pages that are
 // free now.
-#[derive(Clone, Copy)]
+#[derive(Clone, Copy, Default)]
 struct Changes {
-    links: u16,
-    linked: u16,
-    freed: u16,
+    links: usize,
+    linked: usize,
+    freed: usize,
 }
 
 // What a scavenge found and did.
@@ -24,44 +24,34 @@ struct Found {
     after: Totals,
 }
 
-// Whether two images differ in a word.
-fn differs(old: &[u16], new: &[u16], at: usize) -> bool {
-    old.get(at).copied() != new.get(at).copied()
+// In how many of their first words two labels differ.
+fn count_changed(old: &[u16], new: &[u16], words: usize) -> usize {
+    old.iter()
+        .zip(new)
+        .take(words)
+        .filter(|(one, other)| one != other)
+        .count()
 }
 
-// How many of some words from a place on are other ones in the new image.
-fn count_changed(old: &[u16], new: &[u16], from: usize, count: usize) -> u16 {
-    let mut changed = 0u16;
-    for k in 0..count {
-        if differs(old, new, from.saturating_add(k)) {
-            changed = changed.saturating_add(1);
-        }
-    }
-    changed
+// The labels of an image, eight words each, and what lies behind them.
+fn labels(words: &[u16]) -> &[u16] {
+    words.get(1..).unwrap_or(&[])
 }
 
 // What was altered on the pages, by the records of the survey before.
 fn find_changes(old: &[u16], new: &[u16], records: &[Record]) -> Changes {
-    let mut changes = Changes {
-        links: 0,
-        linked: 0,
-        freed: 0,
-    };
-    for (page, record) in records.iter().enumerate() {
-        let label = page.saturating_mul(8).saturating_add(1);
+    let mut changes = Changes::default();
+    let pages = labels(old).chunks(8).zip(labels(new).chunks(8));
+    for ((old, new), record) in pages.zip(records) {
         match record.verdict {
             Verdict::Chained => {
-                let links = count_changed(old, new, label, 2);
+                let links = count_changed(old, new, 2);
                 changes.links = changes.links.saturating_add(links);
                 if links > 0 {
                     changes.linked = changes.linked.saturating_add(1);
                 }
             }
-            Verdict::Stray => {
-                if count_changed(old, new, label, 8) > 0 {
-                    changes.freed = changes.freed.saturating_add(1);
-                }
-            }
+            Verdict::Stray if old != new => changes.freed = changes.freed.saturating_add(1),
             _ => {}
         }
     }
@@ -75,10 +65,9 @@ fn mend_copy(rt: &HostRuntime, words: &[u16], copy: &mut [u16]) -> Result<Found,
     println!(rt; "scavenging a copy of {n} pages")?;
     let mut records = vec![in rt.alloc(); Record::bare(Verdict::Reserved); n as usize]?;
     let mut pack = Pack::new(CopyDrive::new(copy));
-    let before = match pack.scavenge(records.as_mut_slice()) {
-        Ok(totals) => totals,
-        Err(refusal) => return Err(explained(&mut reader, refusal)),
-    };
+    let before = pack
+        .scavenge(records.as_mut_slice())
+        .map_err(|refusal| explained(&mut reader, refusal))?;
     let mended = pack.into_drive().into_words();
     let changes = find_changes(words, mended, records.as_slice());
     let (_, after) = find_records(rt, &mut ImageReader::new(mended), Steps::Told)?;
@@ -90,12 +79,13 @@ fn mend_copy(rt: &HostRuntime, words: &[u16], copy: &mut [u16]) -> Result<Found,
 }
 
 fn tell_found(rt: &HostRuntime, found: Found) -> Result<(), Problem> {
-    let heap = rt.alloc();
-    let before = totals_text(heap, found.before)?;
-    let after = totals_text(heap, found.after)?;
-    let links = found.changes.links;
-    let linked = found.changes.linked;
-    let freed = found.changes.freed;
+    let before = TotalsLine(found.before);
+    let after = TotalsLine(found.after);
+    let Changes {
+        links,
+        linked,
+        freed,
+    } = found.changes;
     println!(rt; "before: {before}")?;
     println!(rt; "links mended: {links} (on {linked} of the chained pages)")?;
     println!(rt; "stray pages freed: {freed}")?;
@@ -106,8 +96,7 @@ fn tell_found(rt: &HostRuntime, found: Found) -> Result<(), Problem> {
 // The words of an image once its pack is mended. It tells what it found and did.
 pub fn mend_image(rt: &HostRuntime, path: &str) -> Result<Vec<u16>, Problem> {
     let words = load(rt, path, Steps::Told)?;
-    let mut copy = Vec::new(rt.alloc());
-    copy.extend_from_slice(words.as_slice())?;
+    let mut copy = words.clone()?;
     let found = mend_copy(rt, words.as_slice(), copy.as_mut_slice())?;
     tell_found(rt, found)?;
     Ok(copy)

@@ -1,40 +1,42 @@
-use crate::store::Replace;
+use crate::store::{Replace, Target};
 
 // What the words behind a command say of its output.
 #[derive(Clone, Copy)]
-pub struct Output {
-    // which of the words names the file
-    pub at: Option<usize>,
-    pub replace: Replace,
+pub struct Output<'a> {
+    path: Option<&'a str>,
+    replace: Replace,
     pub dry_run: bool,
 }
 
-// The output that the words from a place on ask for; none where a word means nothing there.
-pub fn output_of(words: &[String], from: usize) -> Option<Output> {
+impl<'a> Output<'a> {
+    // The file that is named, if one is.
+    pub fn target(self) -> Option<Target<'a>> {
+        let path = self.path?;
+        let replace = self.replace;
+        Some(Target { path, replace })
+    }
+}
+
+// The output that some words ask for; none where a word means nothing there.
+pub fn output_of(words: &[String]) -> Option<Output<'_>> {
     let mut output = Output {
-        at: None,
+        path: None,
         replace: Replace::Never,
         dry_run: false,
     };
-    for i in from..words.len() {
-        match words[i].as_str() {
+    for word in words {
+        match word.as_str() {
             "--force" => output.replace = Replace::Allowed,
             "--dry-run" => output.dry_run = true,
-            word => {
-                if output.at.is_some() || word.starts_with("--") {
+            path => {
+                if output.path.is_some() || path.starts_with("--") {
                     return None;
                 }
-                output.at = Some(i);
+                output.path = Some(path);
             }
         }
     }
     Some(output)
-}
-
-// The word at a place, where there is one.
-pub fn word_at(words: &[String], at: Option<usize>) -> Option<&str> {
-    let word = words.get(at?)?;
-    Some(word.as_str())
 }
 
 // Whether two paths are written the same, but for a ./ before them.

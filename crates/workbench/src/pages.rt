@@ -3,7 +3,6 @@ use crate::problem::Problem;
 use crate::survey_text::find_records;
 use disk::{Cylinders, Label, PageAddress, Reader, RealAddress};
 use image::ImageReader;
-use std::alloc::{AllocError, Global};
 use std::fmt;
 use survey::{Record, Verdict};
 
@@ -30,6 +29,59 @@ impl fmt::Display for LinkText {
     }
 }
 
+// A label, word by word.
+#[derive(Clone, Copy)]
+struct LabelText {
+    label: Label,
+    cylinders: Cylinders,
+}
+
+impl fmt::Display for LabelText {
+    fn fmt<W: fmt::Write>(&self, f: &mut fmt::Formatter<W>) -> fmt::Result {
+        let cylinders = self.cylinders;
+        let Label {
+            next,
+            previous,
+            blank,
+            characters,
+            number,
+            version,
+            serial1,
+            serial2,
+        } = self.label;
+        let next = LinkText {
+            link: next,
+            cylinders,
+        };
+        let previous = LinkText {
+            link: previous,
+            cylinders,
+        };
+        write!(
+            f,
+            "next {next} previous {previous} blank {blank} characters {characters} number {number} version {version} serial1 {serial1} serial2 {serial2}"
+        )
+    }
+}
+
+// What a survey found a page to be.
+#[derive(Clone, Copy)]
+struct VerdictText(Record);
+
+impl fmt::Display for VerdictText {
+    fn fmt<W: fmt::Write>(&self, f: &mut fmt::Formatter<W>) -> fmt::Result {
+        let leader = self.0.leader.page;
+        let number = self.0.number;
+        match self.0.verdict {
+            Verdict::Reserved => write!(f, "reserved"),
+            Verdict::Free => write!(f, "free"),
+            Verdict::Chained => write!(f, "chained, leader {leader}, page number {number}"),
+            Verdict::Stray => write!(f, "stray"),
+            Verdict::Aside => write!(f, "aside"),
+        }
+    }
+}
+
 // What is told of a page.
 #[derive(Clone, Copy)]
 struct PageText {
@@ -40,59 +92,31 @@ struct PageText {
     record: Option<Record>,
 }
 
-fn label_text(heap: Global, label: Label, cylinders: Cylinders) -> Result<String, AllocError> {
-    let next = LinkText {
-        link: label.next,
-        cylinders,
-    };
-    let previous = LinkText {
-        link: label.previous,
-        cylinders,
-    };
-    let blank = label.blank;
-    let characters = label.characters;
-    let number = label.number;
-    let version = label.version;
-    let serial1 = label.serial1;
-    let serial2 = label.serial2;
-    format!(in heap;
-        "next {next} previous {previous} blank {blank} characters {characters} number {number} version {version} serial1 {serial1} serial2 {serial2}"
-    )
-}
-
-fn verdict_text(heap: Global, record: Record) -> Result<String, AllocError> {
-    let leader = record.leader.page;
-    let number = record.number;
-    match record.verdict {
-        Verdict::Reserved => format!(in heap; "; reserved"),
-        Verdict::Free => format!(in heap; "; free"),
-        Verdict::Chained => format!(in heap; "; chained, leader {leader}, page number {number}"),
-        Verdict::Stray => format!(in heap; "; stray"),
-        Verdict::Aside => format!(in heap; "; aside"),
-    }
-}
-
-fn page_text(heap: Global, page: &PageText) -> Result<String, AllocError> {
-    let at = page.at.page;
-    let mut text = match page.at.real(page.cylinders) {
-        Some(real) => {
+impl fmt::Display for PageText {
+    fn fmt<W: fmt::Write>(&self, f: &mut fmt::Formatter<W>) -> fmt::Result {
+        let cylinders = self.cylinders;
+        let page = self.at.page;
+        write!(f, "page {page}")?;
+        if let Some(real) = self.at.real(cylinders) {
             let word = real.word;
-            format!(in heap; "page {at} real {word}: ")?
+            write!(f, " real {word}")?;
         }
-        None => format!(in heap; "page {at}: ")?,
-    };
-    match page.label {
-        Some(label) => text.push_str(label_text(heap, label, page.cylinders)?.as_str())?,
-        None => text.push_str("label unreadable")?,
+        match self.label {
+            Some(label) => {
+                let label = LabelText { label, cylinders };
+                write!(f, ": {label}")?;
+            }
+            None => write!(f, ": label unreadable")?,
+        }
+        if !self.readable {
+            write!(f, "; data unreadable")?;
+        }
+        if let Some(record) = self.record {
+            let verdict = VerdictText(record);
+            write!(f, "; {verdict}")?;
+        }
+        Ok(())
     }
-    if !page.readable {
-        text.push_str("; data unreadable")?;
-    }
-    if let Some(record) = page.record {
-        text.push_str(verdict_text(heap, record)?.as_str())?;
-    }
-    text.push_str("\n")?;
-    Ok(text)
 }
 
 // Prints a line for each page; there are no records where the survey was refused.
@@ -102,19 +126,16 @@ fn list_pages<R: Reader>(
     records: &[Record],
 ) -> Result<(), Problem> {
     let cylinders = reader.cylinders();
-    for p in 0..cylinders.pages() {
-        let at = PageAddress { page: p };
-        let label = reader.read_label(at);
-        let readable = reader.read_data(at).is_some();
-        let record = records.get(p as usize).copied();
-        let page = PageText {
+    // By number: a reader is asked for a page by its address, and has no list to go through.
+    for page in 0..cylinders.pages() {
+        let at = PageAddress { page };
+        rt.println(PageText {
             at,
             cylinders,
-            label,
-            readable,
-            record,
-        };
-        rt.print(page_text(rt.alloc(), &page)?)?;
+            label: reader.read_label(at),
+            readable: reader.read_data(at).is_some(),
+            record: records.get(page as usize).copied(),
+        })?;
     }
     Ok(())
 }

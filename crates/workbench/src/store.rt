@@ -6,30 +6,76 @@ use std::fs::{File, OpenFile};
 use std::io::Write;
 
 // Whether a file that is there already may be replaced.
-#[derive(Clone, Copy)]
+#[derive(Clone, Copy, PartialEq, Eq)]
 pub enum Replace {
     Never,
     Allowed,
 }
 
-// The name under which a file is written first.
-fn beside(heap: Global, path: &str) -> Result<String, AllocError> {
-    format!(in heap; "{path}.new")
+// A file that an image is to be written to.
+#[derive(Clone, Copy)]
+pub struct Target<'a> {
+    pub path: &'a str,
+    pub replace: Replace,
 }
 
-// Refuses a file that is there already and may not be replaced, and so for the file beside it, which an
-// earlier run may have left.
-pub fn check_place(rt: &HostRuntime, path: &str, replace: Replace) -> Result<(), Problem> {
-    match replace {
-        Replace::Allowed => Ok(()),
-        Replace::Never => {
-            if fs::exists(rt, path)? {
-                return Err(Problem::Exists);
+impl<'a> Target<'a> {
+    // The name under which the file is written first.
+    fn beside(self, heap: Global) -> Result<String, AllocError> {
+        let path = self.path;
+        format!(in heap; "{path}.new")
+    }
+
+    // Refuses a file that is there already and may not be replaced, and so for the file beside it, which
+    // an earlier run may have left.
+    pub fn check(self, rt: &HostRuntime) -> Result<(), Problem> {
+        if self.replace == Replace::Allowed {
+            return Ok(());
+        }
+        if fs::exists(rt, self.path)? {
+            return Err(Problem::Exists);
+        }
+        if fs::exists(rt, self.beside(rt.alloc())?.as_str())? {
+            return Err(Problem::LeftOver);
+        }
+        Ok(())
+    }
+
+    // Refuses to replace a file that may be the image that was read, under another name.
+    pub fn check_apart(self, rt: &HostRuntime, image: &str) -> Result<(), Problem> {
+        let name = self.beside(rt.alloc())?;
+        if holds_same(rt, image, self.path)? || holds_same(rt, image, name.as_str())? {
+            return Err(Problem::SameFile);
+        }
+        Ok(())
+    }
+
+    // Makes the file beside, where none is there or it may be replaced.
+    fn create(self, rt: &HostRuntime, name: &str) -> Result<File, Problem> {
+        if self.replace == Replace::Allowed && fs::exists(rt, name)? {
+            fs::remove_file(rt, name)?;
+        }
+        Ok(File::create_new(rt, name)?)
+    }
+
+    // Writes an image: to a new file beside it, which takes its name only once it is whole.
+    pub fn store(self, rt: &HostRuntime, words: &[u16]) -> Result<(), Problem> {
+        self.check(rt)?;
+        let heap = rt.alloc();
+        let mut bytes = vec![in heap; 0u8; words.len().saturating_mul(2)]?;
+        words_to_bytes(words, bytes.as_mut_slice())?;
+        let name = self.beside(heap)?;
+        let file = self.create(rt, name.as_str())?;
+        match finish(rt, file, bytes.as_slice(), name.as_str(), self.path) {
+            Ok(()) => {
+                let path = self.path;
+                println!(rt; "wrote {path}")?;
+                Ok(())
             }
-            if fs::exists(rt, beside(rt.alloc(), path)?.as_str())? {
-                return Err(Problem::LeftOver);
+            Err(problem) => {
+                let _ = fs::remove_file(rt, name.as_str());
+                Err(problem)
             }
-            Ok(())
         }
     }
 }
@@ -44,26 +90,6 @@ fn holds_same(rt: &HostRuntime, image: &str, path: &str) -> Result<bool, Problem
     Ok(read.as_slice() == there.as_slice())
 }
 
-// Refuses to replace a file that may be the image that was read, under another name.
-pub fn check_apart(rt: &HostRuntime, image: &str, path: &str) -> Result<(), Problem> {
-    let name = beside(rt.alloc(), path)?;
-    if holds_same(rt, image, path)? || holds_same(rt, image, name.as_str())? {
-        return Err(Problem::SameFile);
-    }
-    Ok(())
-}
-
-// Makes the file beside, where none is there or it may be replaced.
-fn create(rt: &HostRuntime, name: &str, replace: Replace) -> Result<File, Problem> {
-    if let Replace::Allowed = replace {
-        if fs::exists(rt, name)? {
-            fs::remove_file(rt, name)?;
-        }
-    }
-    let file = File::create_new(rt, name)?;
-    Ok(file)
-}
-
 // Writes the bytes to the file beside, and gives it the name that it is to have.
 fn finish(
     rt: &HostRuntime,
@@ -76,24 +102,4 @@ fn finish(
     file.sync_all()?;
     fs::rename(rt, name, path)?;
     Ok(())
-}
-
-// Writes an image: to a new file beside it, which takes its name only once it is whole.
-pub fn store(rt: &HostRuntime, path: &str, words: &[u16], replace: Replace) -> Result<(), Problem> {
-    check_place(rt, path, replace)?;
-    let heap = rt.alloc();
-    let mut bytes = vec![in heap; 0u8; words.len().saturating_mul(2)]?;
-    words_to_bytes(words, bytes.as_mut_slice())?;
-    let name = beside(heap, path)?;
-    let file = create(rt, name.as_str(), replace)?;
-    match finish(rt, file, bytes.as_slice(), name.as_str(), path) {
-        Ok(()) => {
-            println!(rt; "wrote {path}")?;
-            Ok(())
-        }
-        Err(problem) => {
-            let _ = fs::remove_file(rt, name.as_str());
-            Err(problem)
-        }
-    }
 }

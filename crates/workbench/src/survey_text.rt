@@ -2,14 +2,15 @@ use crate::load::{Steps, load};
 use crate::problem::Problem;
 use disk::{Reader, Refusal};
 use image::ImageReader;
-use std::alloc::{AllocError, Global};
+use std::fmt;
 use survey::{Record, Totals, Verdict, survey};
 
 // What a refused survey means: with rivals, also of which file.
 pub fn explained<R: Reader>(reader: &mut R, refusal: Refusal) -> Problem {
     if refusal.other.is_some() {
         if let Some(label) = reader.read_label(refusal.page) {
-            return Problem::Rivals(refusal, label.id());
+            let id = label.id();
+            return Problem::Rivals { refusal, id };
         }
     }
     Problem::Refused(refusal)
@@ -32,15 +33,23 @@ pub fn find_records<R: Reader>(
 }
 
 // How many pages have each verdict, in one line.
-pub fn totals_text(heap: Global, totals: Totals) -> Result<String, AllocError> {
-    let reserved = totals.reserved;
-    let free = totals.free;
-    let chained = totals.chained;
-    let stray = totals.stray;
-    let aside = totals.aside;
-    format!(in heap;
-        "reserved {reserved}, free {free}, chained {chained}, stray {stray}, aside {aside}"
-    )
+#[derive(Clone, Copy)]
+pub struct TotalsLine(pub Totals);
+
+impl fmt::Display for TotalsLine {
+    fn fmt<W: fmt::Write>(&self, f: &mut fmt::Formatter<W>) -> fmt::Result {
+        let Totals {
+            reserved,
+            free,
+            chained,
+            stray,
+            aside,
+        } = self.0;
+        write!(
+            f,
+            "reserved {reserved}, free {free}, chained {chained}, stray {stray}, aside {aside}"
+        )
+    }
 }
 
 // Prints how many pages have each verdict.
@@ -48,27 +57,45 @@ pub fn show_survey(rt: &HostRuntime, path: &str) -> Result<(), Problem> {
     let words = load(rt, path, Steps::Told)?;
     let mut reader = ImageReader::new(words.as_slice());
     let (_, totals) = find_records(rt, &mut reader, Steps::Told)?;
-    let reserved = totals.reserved;
-    let free = totals.free;
-    let chained = totals.chained;
-    let stray = totals.stray;
-    let aside = totals.aside;
-    println!(rt; "reserved {reserved}")?;
-    println!(rt; "free {free}")?;
-    println!(rt; "chained {chained}")?;
-    println!(rt; "stray {stray}")?;
-    println!(rt; "aside {aside}")?;
+    let Totals {
+        reserved,
+        free,
+        chained,
+        stray,
+        aside,
+    } = totals;
+    println!(rt;
+        "reserved {reserved}\nfree {free}\nchained {chained}\nstray {stray}\naside {aside}"
+    )?;
     Ok(())
 }
 
-fn record_text(heap: Global, page: usize, record: &Record) -> Result<String, AllocError> {
-    let verdict = record.verdict.number();
-    let leader = record.leader.page;
-    let version = record.id.version;
-    let serial1 = record.id.serial1;
-    let serial2 = record.id.serial2;
-    let number = record.number;
-    format!(in heap; "{page} {verdict} {leader} {version} {serial1} {serial2} {number}\n")
+// A record in plain numbers.
+#[derive(Clone, Copy)]
+struct RecordLine {
+    page: usize,
+    record: Record,
+}
+
+impl fmt::Display for RecordLine {
+    fn fmt<W: fmt::Write>(&self, f: &mut fmt::Formatter<W>) -> fmt::Result {
+        let page = self.page;
+        let Record {
+            verdict,
+            leader,
+            id,
+            number,
+        } = self.record;
+        let verdict = verdict.number();
+        let leader = leader.page;
+        let version = id.version;
+        let serial1 = id.serial1;
+        let serial2 = id.serial2;
+        write!(
+            f,
+            "{page} {verdict} {leader} {version} {serial1} {serial2} {number}"
+        )
+    }
 }
 
 // Prints the survey's table in plain numbers, and nothing else.
@@ -76,8 +103,8 @@ pub fn show_table(rt: &HostRuntime, path: &str) -> Result<(), Problem> {
     let words = load(rt, path, Steps::Silent)?;
     let mut reader = ImageReader::new(words.as_slice());
     let (records, _) = find_records(rt, &mut reader, Steps::Silent)?;
-    for (page, record) in records.iter().enumerate() {
-        rt.print(record_text(rt.alloc(), page, record)?)?;
+    for (page, record) in records.iter().copied().enumerate() {
+        rt.println(RecordLine { page, record })?;
     }
     Ok(())
 }
