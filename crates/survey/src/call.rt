@@ -4,10 +4,10 @@ ghost use Rattle.survey.specs.Laws.{SurveyLaws};
 ghost use Rattle.survey.specs.Moves.{MovesChangeNothing};
 ghost use Rattle.survey.specs.Verdicts.{survey_answer, survey_table};
 
-use crate::count::{clear, total};
+use crate::count::total;
 use crate::pairs::first_pair;
 use crate::scan::scan;
-use crate::table::{Record, Totals};
+use crate::table::{Record, Totals, Verdict};
 use crate::walk::walk_all;
 use disk::{Cylinders, PageAddress, Place, Reader, Reason, Refusal};
 
@@ -22,18 +22,18 @@ fn find<R: Reader>(
     ensures table { table.new ≡ survey_table (page_named (R.Reader.medium reader.old).cylinders) (R.Reader.medium reader.old).pages table.old }
     ensures same { R.Reader.medium reader.new ≡ R.Reader.medium reader.old }
 {
-    let n = cylinders.pages();
-    if table.len() < n as usize {
+    let n = cylinders.pages() as usize;
+    if table.len() < n {
         return Err(Refusal::new(Reason::TooSmall, Place::Pack, PageAddress { page: 0 }));
     }
-    let mut leaders = [0; 9744];
-    let count = scan(reader, table, &mut leaders);
-    if let Some((one, two)) = first_pair(table, &leaders, count) {
-        clear(table, n);
+    let table = &mut table[..n];
+    let leaders = scan(reader, table);
+    if let Some((one, two)) = first_pair(table, leaders.as_slice()) {
+        table.fill(Record::bare(Verdict::Reserved));
         return Err(Refusal::of_two(Reason::Rivals, Place::Pack, one, two));
     }
-    walk_all(reader, table, &leaders, count);
-    Ok(total(table, n))
+    walk_all(reader, table, leaders.as_slice());
+    Ok(total(table))
 }
 
 // Tells of each page which file it belongs to, and counts the pages of each verdict. The first N

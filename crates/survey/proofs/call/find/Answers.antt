@@ -1,62 +1,59 @@
-use Rattle.std.proofs.Common.{◌≡◌, ℕ, ◌≤◌, List, ◌++◌, length, get_or, take, drop, replicate, Err, Result, ap, ◌∙◌, subst, arith}
+use Rattle.std.proofs.Common.{◌≡◌, ℕ, ◌≤◌, List, ◌++◌, length, drop, replicate, Err, Result, sym, ap, ◌∙◌, subst, arith, rules}
+use Rattle.std.proofs.lemmas.List.{length-take-le}
+use Rattle.disk.specs.declared.address.PageAddress.{PageAddress}
 use Rattle.disk.specs.declared.refusal.Refusal.{Refusal}
 use Rattle.disk.specs.Addresses.{page_named}
 use Rattle.disk.specs.Media.{Page, Medium}
 use Rattle.survey.specs.declared.table.Record.{Record}
 use Rattle.survey.specs.declared.table.Totals.{Totals}
-use Rattle.survey.specs.Chains.{is_leader, rivalled}
+use Rattle.survey.specs.Chains.{rivalled}
 use Rattle.survey.specs.Verdicts.{totals}
-use Rattle.survey.specs.Steps.{no_record, MarkedAll}
-use Rattle.survey.proofs.Finding.{Lowest, pair_lowest, no_pair, Walked, table_filled, totals_filled, answer_rivals, table_rivals, answer_found, table_found, scanned_rest}
+use Rattle.survey.specs.Steps.{no_record, pair_of, MarkedAll}
+use Rattle.survey.proofs.Finding.{Lowest, no_pair, pair_lowest, table_filled, answer_rivals, table_rivals, answer_found, table_found}
 use Rattle.survey.proofs.call.find.Goals as goal
 
 pub returns-in-Some : goal.returns-in-Some
 returns-in-Some g c =
     let m : Medium = g.R.Reader.medium c.args.reader.now in
     let ps : List Page = m.pages in
+    let ts = c.scan-leaders.new.table in
     let room : length ps ≤ length c.args.table.now = omega arith in
     let n : c.pages-n.result ≡ length ps = omega arith in
-    let low : Lowest ps c.in-Some.one.page c.in-Some.two.page =
-    pair_lowest ps (length ps) c.scan-count.result c.args.table.now c.scan-count.new.table c.scan-count.new.leaders c.in-Some.one.page c.in-Some.two.page c.scan-count.ensures.scanned c.scan-count.ensures.listed (omega arith) c.in-Some.ensures in
+    let cut = length-take-le c.pages-n.result c.args.table.now (omega arith) in
+    let long : length ts ≡ length ps = omega arith in
+    let low = pair_lowest ps ts c.scan-leaders.result.items c.scan-leaders.ensures.scanned c.scan-leaders.ensures.listed c.first_pair.result c.in-Some.one c.in-Some.two (c.first_pair.ensures ∙ ap (pair_of ts) c.as_slice.ensures.value) c.in-Some.is in
+    let clear : c.fill.new.self ≡ replicate (length ts) c.bare.result = c.fill.ensures.after (λ y e. search rules) in
+    let cleared : c.fill.new.self ≡ replicate (length ps) no_record = clear ∙ (ap (λ (k : ℕ). replicate k c.bare.result) long ∙ ap (replicate (length ps)) c.bare.ensures) in
     record {
       answer = ap {B = Result Totals Refusal} Err c.of_two.ensures ∙ answer_rivals (page_named m.cylinders) ps c.args.table.now room c.in-Some.one.page c.in-Some.two.page low;
-      table = c.clear.ensures ∙ (ap (λ (k : ℕ). replicate k no_record ++ drop k c.scan-count.new.table) n
-          ∙ (ap (λ (ts : List Record). replicate (length ps) no_record ++ ts) (scanned_rest ps (length ps) c.args.table.now c.scan-count.new.table (omega arith) c.scan-count.ensures.scanned)
-          ∙ table_rivals (page_named m.cylinders) ps c.args.table.now room c.in-Some.one.page c.in-Some.two.page low));
-      same = c.scan-count.ensures.same;
+      table = rw (cleared, n) (table_rivals (page_named m.cylinders) ps c.args.table.now room c.in-Some.one.page c.in-Some.two.page low);
+      same = c.scan-leaders.ensures.same;
     }
 
-pub walk_all-requires : goal.walk_all-requires
-walk_all-requires g c =
-    let same = c.scan-count.ensures.same in
-    let long = ap (λ (x : Medium). length x.pages) same in
-    let few = c.scan-count.ensures.listed.few in
-    let ps : List Page = (g.R.Reader.medium c.args.reader.now).pages in
-    let none : rivalled ps ≡ 0 = no_pair ps (length ps) c.scan-count.result c.args.table.now c.scan-count.new.table c.scan-count.new.leaders c.scan-count.ensures.scanned c.scan-count.ensures.listed (omega arith) c.in_default.ensures in
-    (omega arith, (omega arith, (λ j h. ap (λ (x : Medium). is_leader x.pages (get_or c.scan-count.new.leaders j 0)) same ∙ c.scan-count.ensures.listed.leader j h, ap (λ (x : Medium). rivalled x.pages) same ∙ none)))
+pub walk_all-requires-clause-no_rivals : goal.walk_all-requires-clause-no_rivals
+walk_all-requires-clause-no_rivals g c =
+    let ts = c.scan-leaders.new.table in
+    ap (λ (x : Medium). rivalled x.pages) c.scan-leaders.ensures.same
+    ∙ no_pair (g.R.Reader.medium c.args.reader.now).pages ts c.scan-leaders.result.items c.scan-leaders.ensures.scanned c.scan-leaders.ensures.listed c.first_pair.result (c.first_pair.ensures ∙ ap (pair_of ts) c.as_slice.ensures.value) c.in_default.is
 
 pub returns : goal.returns
 returns g c =
     let m : Medium = g.R.Reader.medium c.args.reader.now in
     let ps : List Page = m.pages in
-    let old = c.args.table.now in
+    let ts = c.scan-leaders.new.table in
+    let ls = c.scan-leaders.result.items in
     let new = c.walk_all.new.table in
-    let same = c.scan-count.ensures.same in
-    let room : length ps ≤ length old = omega arith in
-    let n : c.pages-n.result ≡ length ps = omega arith in
     let name = page_named m.cylinders in
-    let nil : rivalled ps ≡ 0 = no_pair ps (length ps) c.scan-count.result old c.scan-count.new.table c.scan-count.new.leaders c.scan-count.ensures.scanned c.scan-count.ensures.listed (omega arith) c.in_default.ensures in
-    let w : Walked name ps c.scan-count.result c.scan-count.new.leaders old c.scan-count.new.table new =
+    let same = c.scan-leaders.ensures.same in
+    let room : length ps ≤ length c.args.table.now = omega arith in
+    let n : c.pages-n.result ≡ length ps = omega arith in
+    let none : rivalled ps ≡ 0 = no_pair ps ts ls c.scan-leaders.ensures.scanned c.scan-leaders.ensures.listed c.first_pair.result (c.first_pair.ensures ∙ ap (pair_of ts) c.as_slice.ensures.value) c.in_default.is in
+    let marked : MarkedAll name ps ls ts new =
+    subst (λ (x : Medium). MarkedAll (page_named x.cylinders) x.pages ls ts new) same (subst (λ (xs : List PageAddress). MarkedAll (page_named (g.R.Reader.medium c.scan-leaders.new.reader).cylinders) (g.R.Reader.medium c.scan-leaders.new.reader).pages xs ts new) c.as_slice-2.ensures.value c.walk_all.ensures.marked) in
+    let cut = length-take-le c.pages-n.result c.args.table.now (omega arith) in
+    let filled = table_filled ps ts ls c.scan-leaders.ensures.scanned c.scan-leaders.ensures.listed name new none marked (omega arith) in
     record {
-      none = nil;
-      scanned = c.scan-count.ensures.scanned;
-      listed = c.scan-count.ensures.listed;
-      marked = subst (λ (x : Medium). MarkedAll (page_named x.cylinders) x.pages c.scan-count.new.leaders c.scan-count.result c.scan-count.new.table new) same c.walk_all.ensures.marked;
-      long = omega arith;
-      room = room;
-    } in
-    record {
-      answer = answer_found name ps old room c.total.result nil (c.total.ensures ∙ (ap (λ (k : ℕ). totals (take k new)) n ∙ totals_filled name ps c.scan-count.result c.scan-count.new.leaders old c.scan-count.new.table new w));
-      table = table_filled name ps c.scan-count.result c.scan-count.new.leaders old c.scan-count.new.table new w ∙ table_found name ps old room nil;
+      answer = answer_found name ps c.args.table.now room c.total.result none (c.total.ensures ∙ ap totals filled);
+      table = rw (filled, n) (table_found name ps c.args.table.now room none);
       same = c.walk_all.ensures.same ∙ same;
     }
