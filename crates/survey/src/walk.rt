@@ -12,7 +12,7 @@ use disk::{Cylinders, Label, PageAddress, Reader};
 fn is_joined(l: Label, m: Label) -> bool
     ensures { result ≡ joins (Some l) (Some m) }
 {
-    m.is_file() && l.id() == m.id() && u32::from(m.number) == u32::from(l.number) + 1
+    m.is_file() && l.id() == m.id() && l.number.checked_add(1) == Some(m.number)
 }
 
 // The page that follows one with that label.
@@ -28,14 +28,10 @@ pub fn next_link<R: Reader>(reader: &mut R, cylinders: Cylinders, label: Label) 
         return None;
     }
     let behind = reader.read_label(page)?;
-    if is_joined(label, behind) {
-        Some(Link {
-            page,
-            label: behind,
-        })
-    } else {
-        None
-    }
+    is_joined(label, behind).then_some(Link {
+        page,
+        label: behind,
+    })
 }
 
 // Marks the pages of the chain of a leader with it, page after page.

@@ -12,7 +12,7 @@ pair_at : (ts : List Record) (ls : List PageAddress) (i : ℕ) (d : PageAddress)
 pair_at ts ls i d o h e =
     at_drop_more (pair_of ts) ls i d h
     ∙ ap (pair_or (get_or ls i d) (pair_of ts (drop (i + 1) ls)))
-        (ap (find (has_id ts (id_in ts (get_or ls i d)))) (sym (between_to_end ls (i + 1) (length ls) (omega arith))) ∙ sym e)
+    (ap (find (has_id ts (id_in ts (get_or ls i d)))) (sym (between_to_end ls (i + 1) (length ls) (omega arith))) ∙ sym e)
 
 pub loop-i-preserved : goal.loop-i-preserved
 loop-i-preserved c =

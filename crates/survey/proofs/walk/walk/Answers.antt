@@ -22,8 +22,8 @@ turned g c =
     let long = ap (λ (x : Medium). length x.pages) same in
     let name = page_named c.cylinders-cylinders.result.count in
     turn name m.pages c.args.leader.page c.loop-next.next c.next_link-next.result c.args.table.now c.loop-next.table c.in-Some.at c.filed.result
-        (ap (λ (x : Medium). is_leader x.pages c.args.leader.page) same ∙ c.requires.leads) (omega arith) c.loop-next.invariant.1 c.in-Some.is c.filed.ensures
-        (subst (λ (x : Medium). Linked name x.pages c.in-Some.at.label c.next_link-next.result) c.loop-next.invariant.0 c.next_link-next.ensures.answer)
+    (ap (λ (x : Medium). is_leader x.pages c.args.leader.page) same ∙ c.requires.leads) (omega arith) c.loop-next.invariant.1 c.in-Some.is c.filed.ensures
+    (subst (λ (x : Medium). Linked name x.pages c.in-Some.at.label c.next_link-next.result) c.loop-next.invariant.0 c.next_link-next.ensures.answer)
 
 pub loop-next-smaller : goal.loop-next-smaller
 loop-next-smaller g c = (turned g c).shorter

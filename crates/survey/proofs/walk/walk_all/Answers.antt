@@ -19,7 +19,7 @@ loop-leader-preserved g c =
     let a : PageAddress = get_or ls i d in (
       c.walk.ensures.same ∙ c.loop-leader.invariant.0,
       subst (λ (xs : List PageAddress). MarkedAll (page_named m.cylinders) m.pages xs c.args.table.now c.walk.new.table) (sym (take_more ls i d h))
-      (marked_push (page_named m.cylinders) m.pages (take i ls) a c.args.table.now c.loop-leader.table c.walk.new.table c.requires.no_rivals
+          (marked_push (page_named m.cylinders) m.pages (take i ls) a c.args.table.now c.loop-leader.table c.walk.new.table c.requires.no_rivals
           (All-take (λ b. is_leader m.pages b.page ≡ true) i ls c.requires.leaders) (c.requires.leaders i d h) c.loop-leader.invariant.1
           (subst (λ (x : Medium). Marked (page_named x.cylinders) x.pages a.page c.loop-leader.table c.walk.new.table) c.loop-leader.invariant.0 c.walk.ensures.marked)),
     )
