@@ -1,9 +1,12 @@
 -- What the scan, the search for rivals and the walks come to.
-use Rattle.std.proofs.Common.{◌≡◌, ℕ, zero, suc, ◌+◌, ◌-◌, ◌<◌, ◌≤◌, Bool, true, false, cond, ltb, ◌⊎◌, List, [], ◌∷◌, ◌++◌, length, get_or, take, drop, replicate, Some, None, Ok, Err, Option, Result, sym, refl, ap, ◌∙◌, subst, inl, inr, ⊎_elim, arith}
-use Rattle.std.specs.List.{find}
+use Rattle.std.proofs.Common.{◌≡◌, ℕ, zero, suc, ◌-◌, ◌<◌, ◌≤◌, Bool, true, false, ltb, ◌⊎◌, List, [], ◌∷◌, ◌++◌, length, get_or, drop, replicate, Some, None, Ok, Err, Option, Result, sym, refl, ap, ◌∙◌, subst, inl, inr, ⊎_elim, arith}
+use Rattle.std.specs.List.{find, position_or_len, slice_get}
 use Rattle.std.proofs.lemmas.List.FromFn.{length-map-range_with_len, get_or-map-range_with_len, fill_by_all}
-use Rattle.std.proofs.lemmas.Bool.{cases_eq, cases_lt, ltb-true, lt-ltb, le-ltb}
+use Rattle.std.proofs.lemmas.Bool.{cases_Bool, cases_eq, cases_lt, ltb-true, lt-ltb, le-ltb}
 use Rattle.std.proofs.lemmas.List.{get_or_default}
+use Rattle.std.proofs.lemmas.List.Folds.{find_at}
+use Rattle.std.proofs.lemmas.List.Sums.{fails_before_first, passes_at_first}
+use Rattle.std.proofs.lemmas.Option.{slice_get-get_or, slice_get_within, get_or_from_slice_get}
 use Rattle.disk.specs.declared.address.PageAddress.{PageAddress}
 use Rattle.disk.specs.declared.refusal.Refusal.{Refusal}
 use Rattle.disk.specs.declared.refusal.Reason.TheVariants.{Rivals}
@@ -18,39 +21,13 @@ use Rattle.survey.specs.Verdicts.{bare, filed, record_by, record_of, table_of, t
 use Rattle.survey.specs.Laws.{In, Leader}
 use Rattle.survey.specs.Steps.{no_record, judged_at, first_record, Scanned, Listed, id_in, has_id, pair_or, pair_of, MarkedAll}
 use Rattle.survey.proofs.Following.{never, not_true, file_not_free, file_same, file_from, leader_is, leader_from, has_label, id_at}
-use Rattle.survey.proofs.Leading.{tested, first_is, Led, leader_of_is, leader_of_there, Rival, rivals_are, rivals_from, rival_back, rival_there, rival_is, rivalled_is}
+use Rattle.survey.proofs.Leading.{first_is, Led, leader_of_is, leader_of_there, Rival, rivals_are, rivals_from, rival_back, rival_there, rival_is, rivalled_is}
 
--- The first element that passes a test, by its place in the list.
-record Found {X : Type 0} (t : X → Bool) (xs : List X) (d b : X) : Type 0 where
-  place : ℕ
-  inside : place < length xs
-  is_b : get_or xs place d ≡ b
-  passes : t b ≡ true
-  first : (h : ℕ) → h < place → t (get_or xs h d) ≡ false
-
+-- Where no element passes a test.
 find_none : {X : Type 0} (t : X → Bool) (xs : List X) (d : X) → find t xs ≡ None → (h : ℕ) → h < length xs → t (get_or xs h d) ≡ false
-find_none t [] d e h l = absurd (omega arith)
-find_none t (x ∷ xs) d e h l = go (t x) refl (λ u k m. find_none t xs d u k m) e h l
-  where
-    go : (b : Bool) → t x ≡ b → (find t xs ≡ None → (k : ℕ) → k < length xs → t (get_or xs k d) ≡ false) → cond b (Some x) (find t xs) ≡ None → (k : ℕ) → k < suc (length xs) → t (get_or (x ∷ xs) k d) ≡ false
-    go true u again v k m = never (Some x) x v refl
-    go false u again v zero m = u
-    go false u again v (suc k) m = again v k (omega arith)
-
-find_some : {X : Type 0} (t : X → Bool) (xs : List X) (d b : X) → find t xs ≡ Some b → Found t xs d b
-find_some t [] d b e = never None b refl e
-find_some t (x ∷ xs) d b e = go (t x) refl (λ u. find_some t xs d b u) e
-  where
-    go : (c : Bool) → t x ≡ c → (find t xs ≡ Some b → Found t xs d b) → cond c (Some x) (find t xs) ≡ Some b → Found t (x ∷ xs) d b
-    go true u again v = let w : x ≡ b = cc in record { place = 0; inside = omega arith; is_b = w; passes = ap t (sym w) ∙ u; first = λ h l. absurd (omega arith) }
-    go false u again v =
-        let f = again v in
-        let l = f.inside in
-        record { place = suc f.place; inside = omega arith; is_b = f.is_b; passes = f.passes; first = before }
-      where
-        before : (h : ℕ) → h < suc (again v).place → t (get_or (x ∷ xs) h d) ≡ false
-        before zero l = u
-        before (suc h) l = (again v).first h (omega arith)
+find_none t xs d e h l =
+    let p = position_or_len t xs in
+    ⊎_elim (λ (u : h < p). fails_before_first t xs h d u) (λ (u : p ≤ h). never (slice_get xs p) (get_or xs p d) (sym (find_at t xs) ∙ e) (slice_get-get_or xs p d (omega arith))) (cases_lt h p)
 
 -- The pages of a list by their places, and whether two of them have one file id in the table.
 abbrev at : List PageAddress → ℕ → PageAddress
@@ -90,23 +67,26 @@ pair_some ts (x ∷ xs) a b e = go (find (has_id ts (id_in ts x)) xs) refl (λ w
   where
     go : (o : Option PageAddress) → find (has_id ts (id_in ts x)) xs ≡ o → (pair_of ts xs ≡ Some (a, b) → Pair ts xs a b) → pair_or x (pair_of ts xs) o ≡ Some (a, b) → Pair ts (x ∷ xs) a b
     go (Some c) f again w =
+        let t = has_id ts (id_in ts x) in
+        let d : PageAddress = record { page = 0 } in
         let p : ◌≡◌ {A = PageAddress × PageAddress} (x, c) (a, b) = cc in
-        let r = find_some (has_id ts (id_in ts x)) xs (record { page = 0 }) c f in
+        let g : slice_get xs (position_or_len t xs) ≡ Some c = sym (find_at t xs) ∙ f in
+        let l = slice_get_within xs (position_or_len t xs) c g in
         record {
           i = 0;
-          j = suc r.place;
+          j = suc (position_or_len t xs);
           is_a = ap (λ (q : PageAddress × PageAddress). q.0) p;
-          is_b = r.is_b ∙ ap (λ (q : PageAddress × PageAddress). q.1) p;
+          is_b = get_or_from_slice_get xs (position_or_len t xs) c d g ∙ ap (λ (q : PageAddress × PageAddress). q.1) p;
           after = omega arith;
-          inside = let h = r.inside in omega arith;
-          like = ap (has_id ts (id_in ts x)) r.is_b ∙ r.passes;
+          inside = omega arith;
+          like = passes_at_first t xs d l;
           first = near;
           none_before = λ g h u v k. absurd (omega arith);
         }
       where
-        near : (h : ℕ) → 0 < h → h < suc (find_some (has_id ts (id_in ts x)) xs (record { page = 0 }) c f).place → alike ts (x ∷ xs) 0 h ≡ false
+        near : (h : ℕ) → 0 < h → h < suc (position_or_len (has_id ts (id_in ts x)) xs) → alike ts (x ∷ xs) 0 h ≡ false
         near zero u v = absurd (omega arith)
-        near (suc h) u v = (find_some (has_id ts (id_in ts x)) xs (record { page = 0 }) c f).first h (omega arith)
+        near (suc h) u v = fails_before_first (has_id ts (id_in ts x)) xs h (record { page = 0 }) (omega arith)
     go None f again w =
         let r = again w in
         record {
@@ -227,7 +207,7 @@ module _ (ps : List Page) (ts : List Record) (ls : List PageAddress) (s : Scanne
       r = subst (λ (x : ℕ). Rival ps x b.page) is_a (subst (λ (x : ℕ). Rival ps (nth ls p.i) x) is_b (alike_rivals p.i p.j p.after p.inside p.like))
 
       lower : (q : ℕ) → 1 ≤ q → q < a.page → ltb 0 (rival_of ps q) ≡ false
-      lower q h k = ⊎_elim (λ u. absurd (rivalry u)) (λ (u : ltb 0 (rival_of ps q) ≡ false). u) (tested (ltb 0 (rival_of ps q)))
+      lower q h k = ⊎_elim (λ u. absurd (rivalry u)) (λ (u : ltb 0 (rival_of ps q) ≡ false). u) (cases_Bool (ltb 0 (rival_of ps q)))
         where
           rivalry : ltb 0 (rival_of ps q) ≡ true → ⊥
           rivalry u = there (place q d.one)
@@ -241,7 +221,7 @@ module _ (ps : List Page) (ts : List Record) (ls : List PageAddress) (s : Scanne
                   none_rival p.i p.none_before g (earlier g p.i v i<k w) v (rival_of ps q) (subst (λ (x : ℕ). Rival ps x (rival_of ps q)) (sym z) d)
 
       nearer : (q : ℕ) → 1 ≤ q → q < b.page → are_rivals ps a.page q ≡ false
-      nearer q h k = ⊎_elim (λ u. absurd (rivalry u)) (λ (u : are_rivals ps a.page q ≡ false). u) (tested (are_rivals ps a.page q))
+      nearer q h k = ⊎_elim (λ u. absurd (rivalry u)) (λ (u : are_rivals ps a.page q ≡ false). u) (cases_Bool (are_rivals ps a.page q))
         where
           rivalry : are_rivals ps a.page q ≡ true → ⊥
           rivalry u = there (place q d.two)
@@ -276,7 +256,7 @@ module _ (ps : List Page) (ts : List Record) (ls : List PageAddress) (s : Scanne
     unled p e = m.others p (λ j d h i. let x = leader_of_there name ps (get_or ls j d).page p (record { leader = leader_is ps (get_or ls j d).page (l.leaders j d h); inside = i }) in omega arith)
 
     not_leading : (p : ℕ) → leader_of name ps p ≡ 0 → is_leader ps p ≡ false
-    not_leading p e = ⊎_elim (λ u. absurd (let x = leader_of_there name ps p p (record { leader = leader_is ps p u; inside = inl refl }) in omega arith)) (λ (u : is_leader ps p ≡ false). u) (tested (is_leader ps p))
+    not_leading p e = ⊎_elim (λ u. absurd (let x = leader_of_there name ps p p (record { leader = leader_is ps p u; inside = inl refl }) in omega arith)) (λ (u : is_leader ps p ≡ false). u) (cases_Bool (is_leader ps p))
 
     each : (p : ℕ) → p < length ps → get_or new p no_record ≡ record_of name ps p
     each p h = ⊎_elim (λ (u : 0 < leader_of name ps p). by_list (leader_of name ps p) p (leader_of_is name ps p u)) (λ (u : leader_of name ps p ≤ 0). alone (omega arith)) (cases_lt 0 (leader_of name ps p))

@@ -1,12 +1,11 @@
 -- The pages of a chain, marked one after the other.
 use Rattle.std.proofs.Common.{◌≡◌, ℕ, ◌+◌, ◌<◌, ◌≤◌, true, ◌⊎◌, List, [], ◌∷◌, ◌++◌, length, get_or, set, Some, None, Option, All, sym, refl, ap, ◌∙◌, subst, inl, inr, ⊎_elim, arith}
-use Rattle.std.proofs.lemmas.Bool.{cases_eq, lt-ltb}
+use Rattle.std.proofs.lemmas.Bool.{cases_Bool, cases_eq, lt-ltb}
 use Rattle.std.proofs.lemmas.List.{get_or-set_same, get_or-set_other, get_or_append_left, get_or_push, length_push}
 use Rattle.std.proofs.lemmas.List.Elements.{All-push}
 use Rattle.disk.specs.declared.address.PageAddress.{PageAddress}
 use Rattle.disk.specs.declared.label.Label.{Label}
-use Rattle.disk.specs.Addresses.{page_named}
-use Rattle.disk.specs.Media.{Page, Medium, label_at}
+use Rattle.disk.specs.Media.{Page, label_at}
 use Rattle.survey.specs.declared.table.Record.{Record}
 use Rattle.survey.specs.declared.table.Verdict.TheVariants.{Chained}
 use Rattle.survey.specs.declared.trace.Link.{Link}
@@ -16,7 +15,7 @@ use Rattle.survey.specs.Laws.{In, Leader}
 use Rattle.survey.specs.Steps.{no_record, Marked, MarkedAll, ahead, Inside, Walking, Linked}
 use Rattle.survey.proofs.Walks.{in_is_in, is_in_in}
 use Rattle.survey.proofs.Following.{never, not_true, file_not_free, has_label, rest_step, rest_stop, leader_is, Member, member, next_in_chain}
-use Rattle.survey.proofs.Leading.{tested, one_leader}
+use Rattle.survey.proofs.Leading.{one_leader}
 
 -- The record of a page of a chain.
 pub chained_record : (ps : List Page) (q p : ℕ) → 0 < q → (m : Member ps p) → record_by ps q p ≡ filed Chained q m.label
@@ -24,7 +23,7 @@ chained_record ps q p h m = rw (lt-ltb 0 p m.above, m.at_p) (rw (file_not_free m
 
 -- Whether a page is in a list.
 decide_in : (p : ℕ) (qs : List ℕ) → In p qs ⊎ (In p qs → ⊥)
-decide_in p qs = ⊎_elim (λ e. inl (is_in_in p qs e)) (λ e. inr (λ i. not_true (is_in p qs) e (in_is_in p qs i))) (tested (is_in p qs))
+decide_in p qs = ⊎_elim (λ e. inl (is_in_in p qs e)) (λ e. inr (λ i. not_true (is_in p qs) e (in_is_in p qs i))) (cases_Bool (is_in p qs))
 
 -- One link further, with the page at hand marked.
 module _ (name : Naming) (ps : List Page) (q : ℕ) (s : Link) (old new : List Record) (k : Leader ps q) (room : length ps ≤ length new) (w : Walking name ps q (Some s) old new) where
@@ -100,9 +99,6 @@ turn name ps q next now old new s r k room w e f n =
     rw (e, f) (record { walking = walking_on name ps q s old new d room v now n; shorter = shorter name ps q s old new d room v now n })
 
 -- One chain more, on a pack without rivals.
-pub marked_none : (name : Naming) (ps : List Page) (ts : List Record) → MarkedAll name ps [] ts ts
-marked_none name ps ts = record { chained = λ p k d h. absurd (omega arith); others = λ p d. refl }
-
 pub marked_push : (name : Naming) (ps : List Page) (ls : List PageAddress) (a : PageAddress) (old mid new : List Record) → rivalled ps ≡ 0 → All (λ b. is_leader ps b.page ≡ true) ls → is_leader ps a.page ≡ true → MarkedAll name ps ls old mid → Marked name ps a.page mid new → MarkedAll name ps (ls ++ a ∷ []) old new
 marked_push name ps ls a old mid new none leaders lead all m = record {
   chained = λ p. All-push (λ b. In p (chain name ps b.page) → get_or new p no_record ≡ record_by ps b.page p) ls a (λ k d h i. at p k d h i (decide_in p (chain name ps a.page))) (m.chained p);

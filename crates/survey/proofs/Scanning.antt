@@ -1,8 +1,8 @@
 -- The scan: one page more.
-use Rattle.std.proofs.Common.{◌≡◌, ℕ, ◌+◌, ◌<◌, true, false, ◌⊎◌, List, [], ◌∷◌, ◌++◌, length, get_or, set, sym, refl, ap, ◌∙◌, inl, inr, arith, All, Any}
+use Rattle.std.proofs.Common.{◌≡◌, ℕ, ◌+◌, ◌<◌, true, false, ◌⊎◌, List, [], ◌∷◌, ◌++◌, length, get_or, set, sym, ap, ◌∙◌, inl, inr, arith, Any}
 use Rattle.std.proofs.lemmas.Bool.{cases_eq}
 use Rattle.std.proofs.lemmas.List.{get_or-set_same, get_or-set_other, get_or_append_left, length_push}
-use Rattle.std.proofs.lemmas.List.Elements.{All-push, All-weaker}
+use Rattle.std.proofs.lemmas.List.Elements.{All-push}
 use Rattle.std.proofs.lemmas.List.Quantifiers.{Any-push, all_pairs_push}
 use Rattle.disk.specs.declared.address.PageAddress.{PageAddress}
 use Rattle.disk.specs.Media.{Page}
@@ -17,9 +17,6 @@ scanned_more ps i ts x h e s p k = at (cases_eq p i)
     at : (p ≡ i) ⊎ (p ≡ i → ⊥) → get_or (set ts i x) p no_record ≡ first_record ps p
     at (inl u) = ap (λ (q : ℕ). get_or (set ts i x) q no_record) u ∙ (get_or-set_same ts i x no_record h ∙ (e ∙ ap (first_record ps) (sym u)))
     at (inr d) = get_or-set_other ts i p x no_record d ∙ s p (omega arith)
-
-pub listed_none : (ps : List Page) → Listed ps 0 []
-listed_none ps = record { few = omega arith; leaders = λ k d h. absurd (omega arith); below = λ k d h. absurd (omega arith); rising = λ i j d h k. absurd (omega arith); complete = λ q h e. absurd (omega arith) }
 
 pub listed_skip : (ps : List Page) (i : ℕ) (ls : List PageAddress) → is_leader ps i ≡ false → Listed ps i ls → Listed ps (i + 1) ls
 listed_skip ps i ls e l = let f = l.few in record {

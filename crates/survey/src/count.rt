@@ -1,4 +1,4 @@
-ghost use Rattle.std.specs.Prelude.{◌≡◌, ◌+◌, ◌<◌, length};
+ghost use Rattle.std.specs.Prelude.{◌≡◌, ◌<◌, length};
 ghost use Rattle.survey.specs.Verdicts.{counted, totals, cleared};
 ghost use Rattle.survey.specs.Laws.{all_of};
 

@@ -1,5 +1,5 @@
 ghost use Rattle.std.specs.Prelude.{◌≡◌, ◌<◌, length, All, find};
-ghost use Rattle.survey.specs.Steps.{id_in, has_id, pair_of};
+ghost use Rattle.survey.specs.Steps.{has_id, pair_of};
 
 use crate::table::Record;
 use disk::{FileId, PageAddress};

@@ -1,6 +1,5 @@
 ghost use Rattle.std.specs.Prelude.{◌≡◌, ◌≤◌, true, length, Some, All};
 ghost use Rattle.disk.specs.Addresses.{page_named};
-ghost use Rattle.disk.specs.Media.{label_at};
 ghost use Rattle.survey.specs.Chains.{is_leader, joins, rivalled};
 ghost use Rattle.survey.specs.Steps.{Linked, Marked, MarkedAll};
 

@@ -1,4 +1,4 @@
-use Rattle.std.proofs.Common.{◌≡◌, ℕ, ◌*◌, ◌≤◌, List, ◌++◌, length, drop, replicate, Err, Result, sym, ap, ◌∙◌, subst, arith, rules}
+use Rattle.std.proofs.Common.{◌≡◌, ℕ, ◌*◌, ◌≤◌, List, length, replicate, Err, Result, ap, ◌∙◌, subst, arith, rules}
 use Rattle.std.proofs.lemmas.List.{length-take-le}
 use Rattle.disk.specs.declared.address.PageAddress.{PageAddress}
 use Rattle.disk.specs.declared.refusal.Refusal.{Refusal}
@@ -6,7 +6,6 @@ use Rattle.disk.specs.declared.cylinders.Cylinders.{Cylinders}
 use Rattle.disk.specs.Addresses.{page_named, real_address}
 use Rattle.disk.specs.Media.{Page, Medium}
 use Rattle.disk.proofs.Naming.{conversion}
-use Rattle.survey.specs.declared.table.Record.{Record}
 use Rattle.survey.specs.declared.table.Totals.{Totals}
 use Rattle.survey.specs.Chains.{rivalled}
 use Rattle.survey.specs.Verdicts.{totals}
@@ -14,7 +13,7 @@ use Rattle.survey.specs.Steps.{no_record, pair_of, MarkedAll}
 use Rattle.survey.specs.Moves.{MovesChangeNothing}
 use Rattle.survey.proofs.Lawful.{survey_laws}
 use Rattle.survey.proofs.Moving.{moves_change_nothing}
-use Rattle.survey.proofs.Finding.{Lowest, no_pair, pair_lowest, table_filled, answer_rivals, table_rivals, answer_found, table_found}
+use Rattle.survey.proofs.Finding.{no_pair, pair_lowest, table_filled, answer_rivals, table_rivals, answer_found, table_found}
 use Rattle.survey.proofs.call.survey.Goals as goal
 
 -- The law of moves, on a pack of so many cylinders.

@@ -1,9 +1,9 @@
-use Rattle.std.proofs.Common.{◌≡◌, ℕ, ◌+◌, ◌<◌, ◌&&◌, ltb, List, length, Option, sym, ap, ◌∙◌, subst, arith}
+use Rattle.std.proofs.Common.{◌≡◌, ℕ, ◌+◌, ◌&&◌, ltb, List, Option, sym, ap, ◌∙◌, subst, arith}
 use Rattle.disk.specs.declared.address.PageAddress.{PageAddress}
 use Rattle.disk.specs.declared.label.Label.{Label}
 use Rattle.disk.specs.Media.{Page, Medium, label_at}
 use Rattle.survey.specs.Chains.{leads, is_leader}
-use Rattle.survey.specs.Steps.{first_record, judged_at, Listed}
+use Rattle.survey.specs.Steps.{first_record, Listed}
 use Rattle.survey.proofs.Scanning.{scanned_more, listed_push, listed_skip}
 use Rattle.survey.proofs.scan.scan.Goals as goal
 use Rattle.survey.proofs.scan.scan.Goals.{then-leading, else-leading}
@@ -16,8 +16,7 @@ loop-page-preserved g c =
     let listed = λ (ls : List PageAddress). Listed ps (p + 1) ls in
     let read : c.read_label-label.result ≡ label_at ps p = c.read_label-label.ensures.answer ∙ ap (λ (m : Medium). label_at m.pages p) same in
     let lead : c.is_leader-leading.result ≡ is_leader ps p = c.is_leader-leading.ensures ∙ ap (λ (o : Option Label). ltb 0 p && leads o) read in
-    let x : c.judge.result ≡ first_record ps p =
-    c.judge.ensures ∙ (ap (λ (o : Option Label). judged_at p o c.is_leader-leading.result) read ∙ ap (judged_at p (label_at ps p)) lead) in (
+    let x : c.judge.result ≡ first_record ps p = c.judge.ensures ∙ rw (lead, read) in (
       c.read_label-label.ensures.same ∙ same,
       scanned_more ps p c.loop-page.table c.judge.result (omega arith) x c.loop-page.invariant.1,
       elim c.if-leading.branch [
