@@ -1,5 +1,6 @@
 -- The pages of a chain, marked one after the other.
 use Rattle.std.proofs.Common.{◌≡◌, ℕ, ◌+◌, ◌<◌, ◌≤◌, true, ◌⊎◌, List, [], ◌∷◌, ◌++◌, length, get_or, set, Some, None, Option, All, sym, refl, ap, ◌∙◌, subst, inl, inr, ⊎_elim, arith}
+use Rattle.std.specs.Option.{ForSome}
 use Rattle.std.proofs.lemmas.Bool.{cases_Bool, cases_eq, lt-ltb}
 use Rattle.std.proofs.lemmas.List.{get_or-set_same, get_or-set_other, get_or_append_left, get_or_push, length_push}
 use Rattle.std.proofs.lemmas.List.Elements.{All-push}
@@ -12,10 +13,26 @@ use Rattle.survey.specs.declared.trace.Link.{Link}
 use Rattle.survey.specs.Chains.{Naming, is_leader, is_in, points, joins, kept_if, follower, rest, chain, rivalled}
 use Rattle.survey.specs.Verdicts.{filed, record_by}
 use Rattle.survey.specs.Laws.{In, Leader}
-use Rattle.survey.specs.Steps.{no_record, Marked, MarkedAll, ahead, Inside, Walking, Linked}
+use Rattle.survey.specs.Steps.{no_record, Marked, MarkedAll, Linked}
 use Rattle.survey.proofs.Walks.{in_is_in, is_in_in}
 use Rattle.survey.proofs.Following.{never, not_true, file_not_free, has_label, rest_step, rest_stop, leader_is, Member, member, next_in_chain}
 use Rattle.survey.proofs.Leading.{one_leader}
+
+-- The pages from a link of a chain on.
+abbrev pub ahead : Naming → List Page → Option Link → List ℕ
+ahead name ps None = []
+ahead name ps (Some s) = chain name ps s.page.page
+
+-- A link of the chain of q.
+pub record Inside (name : Naming) (ps : List Page) (q : ℕ) (s : Link) : Type 0 where
+  pub at : label_at ps s.page.page ≡ Some s.label
+  pub inside : In s.page.page (chain name ps q)
+
+-- On the way along the chain of q, before the link `next`: what is marked, and what lies ahead.
+pub record Walking (name : Naming) (ps : List Page) (q : ℕ) (next : Option Link) (old new : List Record) : Type 0 where
+  pub link : ForSome next (Inside name ps q)
+  pub chained : (p : ℕ) → In p (chain name ps q) → (get_or new p no_record ≡ record_by ps q p) ⊎ In p (ahead name ps next)
+  pub others : (p : ℕ) → (In p (chain name ps q) → ⊥) → get_or new p no_record ≡ get_or old p no_record
 
 -- The record of a page of a chain.
 pub chained_record : (ps : List Page) (q p : ℕ) → 0 < q → (m : Member ps p) → record_by ps q p ≡ filed Chained q m.label

@@ -1,6 +1,5 @@
 -- What the parts of a survey do, one after the other.
-use Rattle.std.specs.Prelude.{◌≡◌, ℕ, ◌<◌, ◌≤◌, Bool, true, cond, ◌⊎◌, List, [], ◌∷◌, length, Some, None, Option, nat_lt, slice_index_or, All, AllPairs, Any, find}
-use Rattle.std.specs.Option.{ForSome}
+use Rattle.std.specs.Prelude.{◌≡◌, ℕ, ◌<◌, ◌≤◌, Bool, true, cond, List, [], ◌∷◌, length, Some, None, Option, nat_lt, slice_index_or, All, AllPairs, Any, find}
 use Rattle.disk.specs.declared.address.PageAddress.{PageAddress}
 use Rattle.disk.specs.declared.label.FileId.{FileId}
 use Rattle.disk.specs.declared.label.Label.{Label}
@@ -64,19 +63,3 @@ pub record Marked (name : Naming) (ps : List Page) (q : ℕ) (old new : List Rec
 pub record MarkedAll (name : Naming) (ps : List Page) (ls : List PageAddress) (old new : List Record) : Type 0 where
   pub chained : (p : ℕ) → All (λ a. In p (chain name ps a.page) → slice_index_or new p no_record ≡ record_by ps a.page p) ls
   pub others : (p : ℕ) → All (λ a. In p (chain name ps a.page) → ⊥) ls → slice_index_or new p no_record ≡ slice_index_or old p no_record
-
--- The pages from a link of a chain on.
-abbrev pub ahead : Naming → List Page → Option Link → List ℕ
-ahead name ps None = []
-ahead name ps (Some s) = chain name ps s.page.page
-
--- A link of the chain of q.
-pub record Inside (name : Naming) (ps : List Page) (q : ℕ) (s : Link) : Type 0 where
-  pub at : label_at ps s.page.page ≡ Some s.label
-  pub inside : In s.page.page (chain name ps q)
-
--- On the way along the chain of q, before the link `next`: what is marked, and what lies ahead.
-pub record Walking (name : Naming) (ps : List Page) (q : ℕ) (next : Option Link) (old new : List Record) : Type 0 where
-  pub link : ForSome next (Inside name ps q)
-  pub chained : (p : ℕ) → In p (chain name ps q) → (slice_index_or new p no_record ≡ record_by ps q p) ⊎ In p (ahead name ps next)
-  pub others : (p : ℕ) → (In p (chain name ps q) → ⊥) → slice_index_or new p no_record ≡ slice_index_or old p no_record

@@ -1,6 +1,6 @@
 use Rattle.std.proofs.Common.{◌≡◌, length}
 use Rattle.disk.specs.Addresses.{page_named}
-use Rattle.survey.specs.Steps.{Walking, ahead}
+use Rattle.survey.proofs.Marking.{Walking, ahead}
 use Rattle.survey.proofs.walk.walk.Given as goal
 
 abbrev pub invariant-loop-next : goal.invariant-loop-next
