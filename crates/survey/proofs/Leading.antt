@@ -62,10 +62,7 @@ first_there t a (suc n) q z h k e = go (t a) refl (λ l. first_there t (a + 1) n
         after (inl u) = not_true (t a) s (ap t u ∙ e)
         after (inr u) = omega arith
 
--- The pages above 0.
-above_to : (ps : List Page) (p : ℕ) → 0 < p → p < length ps → p < 1 + (length ps - 1)
-above_to ps p h k = omega arith
-
+-- A leader is a page of the pack.
 in_pack : (ps : List Page) (q : ℕ) → Leader ps q → q < length ps
 in_pack ps q k = has_label ps q k.label k.at_q
 

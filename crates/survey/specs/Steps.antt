@@ -1,6 +1,7 @@
 -- What the parts of a survey do, one after the other.
-use Rattle.std.specs.Prelude.{◌≡◌, ℕ, ◌<◌, ◌≤◌, Bool, true, false, cond, ◌⊎◌, List, Some, None, Option, nat_lt, slice_index, slice_index_or}
+use Rattle.std.specs.Prelude.{◌≡◌, ℕ, ◌<◌, ◌≤◌, Bool, true, cond, List, [], ◌∷◌, length, Some, None, Option, nat_lt, slice_index_or, All, AllPairs, Any, find}
 use Rattle.disk.specs.declared.address.PageAddress.{PageAddress}
+use Rattle.disk.specs.declared.label.FileId.{FileId}
 use Rattle.disk.specs.declared.label.Label.{Label}
 use Rattle.disk.specs.Media.{Page, label_at}
 use Rattle.survey.specs.declared.table.Record.{Record}
@@ -20,46 +21,33 @@ judged_at p label leading = cond (nat_lt 0 p) (judged (cond leading p 0) label) 
 abbrev pub first_record : List Page → ℕ → Record
 first_record ps p = judged_at p (label_at ps p) (is_leader ps p)
 
--- The first i records are those, and the others are as they were.
-pub record Scanned (ps : List Page) (i : ℕ) (old new : List Record) : Type 0 where
-  pub done : (p : ℕ) → p < i → slice_index_or new p no_record ≡ first_record ps p
-  pub left : (p : ℕ) → i ≤ p → slice_index_or new p no_record ≡ slice_index_or old p no_record
+-- The first i records are those.
+abbrev pub Scanned : List Page → ℕ → List Record → Type 0
+Scanned ps i ts = (p : ℕ) → p < i → slice_index_or ts p no_record ≡ first_record ps p
 
--- The first k numbers are the leaders below i, from the lowest up.
-pub record Listed (ps : List Page) (i k : ℕ) (ls : List ℕ) : Type 0 where
-  pub few : k ≤ i
-  pub leader : (j : ℕ) → j < k → is_leader ps (slice_index ls j) ≡ true
-  pub below : (j : ℕ) → j < k → slice_index ls j < i
-  pub rising : (h j : ℕ) → h < j → j < k → slice_index ls h < slice_index ls j
-  pub complete : (q : ℕ) → q < i → is_leader ps q ≡ true → (j : ℕ) × (j < k) × (slice_index ls j ≡ q)
+-- The leaders below page i, from the lowest up.
+pub record Listed (ps : List Page) (i : ℕ) (ls : List PageAddress) : Type 0 where
+  pub few : length ls ≤ i
+  pub leaders : All (λ a. is_leader ps a.page ≡ true) ls
+  pub below : All (λ a. a.page < i) ls
+  pub rising : AllPairs (λ a b. a.page < b.page) ls
+  pub complete : (q : ℕ) → q < i → is_leader ps q ≡ true → Any (λ a. a.page ≡ q) ls
 
--- Whether the i-th and the j-th page of a list have one file id in the table.
-abbrev pub alike : List Record → List ℕ → ℕ → ℕ → Bool
-alike ts ls i j = same_file (slice_index_or ts (slice_index ls i) no_record).id (slice_index_or ts (slice_index ls j) no_record).id
+-- The file id of a page in a table, and whether a page has that one.
+abbrev pub id_in : List Record → PageAddress → FileId
+id_in ts a = (slice_index_or ts a.page no_record).id
 
--- The first page behind the i-th that is like it, by its place in the list.
-pub record Match (ts : List Record) (ls : List ℕ) (i k j : ℕ) : Type 0 where
-  pub after : i < j
-  pub inside : j < k
-  pub like : alike ts ls i j ≡ true
-  pub first : (h : ℕ) → i < h → h < j → alike ts ls i h ≡ false
+abbrev pub has_id : List Record → FileId → PageAddress → Bool
+has_id ts f a = same_file (id_in ts a) f
 
-abbrev pub Matched : List Record → List ℕ → ℕ → ℕ → Option ℕ → Type 0
-Matched ts ls i k None = (h : ℕ) → i < h → h < k → alike ts ls i h ≡ false
-Matched ts ls i k (Some j) = Match ts ls i k j
+-- The first two pages of a list that have one file id in a table.
+abbrev pub pair_or : PageAddress → Option (PageAddress × PageAddress) → Option PageAddress → Option (PageAddress × PageAddress)
+pair_or a later None = later
+pair_or a later (Some b) = Some (a, b)
 
--- The first two pages of a list that are alike.
-pub record Pair (ts : List Record) (ls : List ℕ) (k a b : ℕ) : Type 0 where
-  pub i : ℕ
-  pub j : ℕ
-  pub is_a : slice_index ls i ≡ a
-  pub is_b : slice_index ls j ≡ b
-  pub match : Match ts ls i k j
-  pub none_before : (g h : ℕ) → g < i → g < h → h < k → alike ts ls g h ≡ false
-
-abbrev pub Paired : List Record → List ℕ → ℕ → Option (PageAddress × PageAddress) → Type 0
-Paired ts ls k None = (g h : ℕ) → g < h → h < k → alike ts ls g h ≡ false
-Paired ts ls k (Some (a, b)) = Pair ts ls k a.page b.page
+abbrev pub pair_of : List Record → List PageAddress → Option (PageAddress × PageAddress)
+pair_of ts [] = None
+pair_of ts (a ∷ more) = pair_or a (pair_of ts more) (find (has_id ts (id_in ts a)) more)
 
 -- The page that follows one with that label, and its own label.
 abbrev pub Linked : Naming → List Page → Label → Option Link → Type 0
@@ -71,14 +59,7 @@ pub record Marked (name : Naming) (ps : List Page) (q : ℕ) (old new : List Rec
   pub chained : (p : ℕ) → In p (chain name ps q) → slice_index_or new p no_record ≡ record_by ps q p
   pub others : (p : ℕ) → (In p (chain name ps q) → ⊥) → slice_index_or new p no_record ≡ slice_index_or old p no_record
 
--- The same of the chains of the first i leaders of a list.
-pub record MarkedAll (name : Naming) (ps : List Page) (ls : List ℕ) (i : ℕ) (old new : List Record) : Type 0 where
-  pub chained : (j p : ℕ) → j < i → In p (chain name ps (slice_index ls j)) → slice_index_or new p no_record ≡ record_by ps (slice_index ls j) p
-  pub others : (p : ℕ) → ((j : ℕ) → j < i → In p (chain name ps (slice_index ls j)) → ⊥) → slice_index_or new p no_record ≡ slice_index_or old p no_record
-
--- On the way along the chain of q, at page x: what is marked, and what lies ahead.
-pub record Walking (name : Naming) (ps : List Page) (q x : ℕ) (label : Label) (old new : List Record) : Type 0 where
-  pub at_x : label_at ps x ≡ Some label
-  pub inside : In x (chain name ps q)
-  pub chained : (p : ℕ) → In p (chain name ps q) → (slice_index_or new p no_record ≡ record_by ps q p) ⊎ In p (chain name ps x)
-  pub others : (p : ℕ) → (In p (chain name ps q) → ⊥) → slice_index_or new p no_record ≡ slice_index_or old p no_record
+-- The same of the chains of all leaders of a list.
+pub record MarkedAll (name : Naming) (ps : List Page) (ls : List PageAddress) (old new : List Record) : Type 0 where
+  pub chained : (p : ℕ) → All (λ a. In p (chain name ps a.page) → slice_index_or new p no_record ≡ record_by ps a.page p) ls
+  pub others : (p : ℕ) → All (λ a. In p (chain name ps a.page) → ⊥) ls → slice_index_or new p no_record ≡ slice_index_or old p no_record

@@ -1,24 +1,10 @@
-ghost use Rattle.std.specs.Prelude.{◌≡◌, ℕ, ◌+◌, ◌<◌, ◌≤◌, ◌++◌, length, take, drop, replicate};
-ghost use Rattle.survey.specs.declared.table.Verdict.TheVariants.{Reserved};
-ghost use Rattle.survey.specs.Verdicts.{bare, counted, none, totals, cleared};
+ghost use Rattle.std.specs.Prelude.{◌≡◌, ◌<◌, length};
+ghost use Rattle.survey.specs.Verdicts.{counted, totals, cleared};
 ghost use Rattle.survey.specs.Laws.{all_of};
 
 use crate::table::{Record, Totals, Verdict};
 
 impl Totals {
-    // Of no page.
-    fn none() -> Totals
-        ensures { result ≡ none }
-    {
-        Totals {
-            reserved: 0,
-            free: 0,
-            chained: 0,
-            stray: 0,
-            aside: 0,
-        }
-    }
-
     // With one page more.
     fn count(&mut self, verdict: Verdict)
         requires { all_of self.old < 65535 }
@@ -34,34 +20,24 @@ impl Totals {
     }
 }
 
-// How many of the first n records have each verdict, counted from the last one down.
-pub(crate) fn total(table: &[Record], n: u16) -> Totals
-    requires { n ≤ length table.now }
-    ensures { result ≡ totals (take n table.now) }
+// How many of the records have each verdict.
+pub(crate) fn total(table: &[Record]) -> Totals
+    requires { length table.now < 65536 }
+    ensures { result ≡ totals table.now }
 {
-    let mut all = Totals::none();
-    for i in (0..n).rev() {
-        all.count(table[i as usize].verdict);
+    let mut all = Totals::default();
+    for record in table {
+        all.count(record.verdict);
     }
     all
-}
-
-// Clears the first n records.
-pub(crate) fn clear(table: &mut [Record], n: u16)
-    requires { n ≤ length table.old }
-    ensures { table.new ≡ replicate n (bare Reserved) ++ drop n table.old }
-{
-    for i in 0..n {
-        table[i as usize] = Record::bare(Verdict::Reserved);
-    }
 }
 
 // Clears the records of the first n pages; a table that is shorter is not touched.
 pub fn clear_records(table: &mut [Record], n: u16)
     ensures { table.new ≡ cleared n table.old }
 {
-    if table.len() < n as usize {
-        return;
+    let n = n as usize;
+    if n <= table.len() {
+        table[..n].fill(Record::bare(Verdict::Reserved));
     }
-    clear(table, n);
 }

@@ -1,46 +1,32 @@
-ghost use Rattle.std.specs.Prelude.{◌≡◌, ℕ, ◌<◌, ◌≤◌, length, slice_index};
-ghost use Rattle.survey.specs.Chains.{same_file};
-ghost use Rattle.survey.specs.Steps.{Matched, Paired};
+ghost use Rattle.std.specs.Prelude.{◌≡◌, ◌<◌, length, All, find};
+ghost use Rattle.survey.specs.Steps.{has_id, pair_of};
 
 use crate::table::Record;
 use disk::{FileId, PageAddress};
 
-// Whether two file ids agree in all three words.
-fn is_same_file(a: FileId, b: FileId) -> bool
-    ensures { result ≡ same_file a b }
+// The first of the pages that has that file id in the table.
+fn first_of(table: &[Record], id: FileId, pages: &[PageAddress]) -> Option<PageAddress>
+    requires { All (λ a. a.page < length table.now) pages.now }
+    ensures { result ≡ find (has_id table.now id) pages.now }
 {
-    a.version == b.version && a.serial1 == b.serial1 && a.serial2 == b.serial2
+    pages
+        .iter()
+        .copied()
+        .find(|at| table[at.page as usize].id == id)
 }
 
-// The first of the listed pages behind the i-th that has its file id, by its place in the list.
-fn match_behind(table: &[Record], leaders: &[u16], count: usize, i: usize) -> Option<usize>
-    requires { (count ≤ length leaders.now) × ((i < count) × (((j : ℕ) → j < count → slice_index leaders.now j < length table.now))) }
-    ensures { Matched table.now leaders.now i count result }
-{
-    let id = table[leaders[i] as usize].id;
-    for j in i + 1..count {
-        if is_same_file(id, table[leaders[j] as usize].id) {
-            return Some(j);
-        }
-    }
-    None
-}
-
-// The first two of the listed pages that have one file id.
+// The first two of the pages that have one file id in the table.
 pub(crate) fn first_pair(
     table: &[Record],
-    leaders: &[u16],
-    count: usize,
+    pages: &[PageAddress],
 ) -> Option<(PageAddress, PageAddress)>
-    requires { (count ≤ length leaders.now) × (((j : ℕ) → j < count → slice_index leaders.now j < length table.now)) }
-    ensures { Paired table.now leaders.now count result }
+    requires { All (λ a. a.page < length table.now) pages.now }
+    ensures { result ≡ pair_of table.now pages.now }
 {
-    for i in 0..count {
-        if let Some(j) = match_behind(table, leaders, count, i) {
-            return Some((
-                PageAddress { page: leaders[i] },
-                PageAddress { page: leaders[j] },
-            ));
+    for (i, one) in pages.iter().enumerate() {
+        let id = table[one.page as usize].id;
+        if let Some(two) = first_of(table, id, &pages[i + 1..]) {
+            return Some((*one, two));
         }
     }
     None

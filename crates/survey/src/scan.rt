@@ -1,9 +1,10 @@
-ghost use Rattle.std.specs.Prelude.{◌≡◌, ◌<◌, ◌≤◌, ◌&&◌, length, Some, nat_lt};
+ghost use Rattle.std.specs.Prelude.{◌≡◌, ◌≤◌, ◌&&◌, length, Some, nat_lt};
 ghost use Rattle.survey.specs.Chains.{leads};
 ghost use Rattle.survey.specs.Verdicts.{bare, filed};
 ghost use Rattle.survey.specs.Steps.{judged_at, Scanned, Listed};
 
 use crate::table::{Record, Verdict};
+use arrayvec::ArrayVec;
 use disk::{FileId, Label, PageAddress, Reader};
 
 impl Record {
@@ -47,51 +48,39 @@ fn is_leading(label: Label) -> bool
 fn is_leader(at: PageAddress, label: Option<Label>) -> bool
     ensures { result ≡ (nat_lt 0 at.page && leads label) }
 {
-    match label {
-        None => false,
-        Some(l) => at.page > 0 && is_leading(l),
-    }
+    at.page > 0 && label.is_some_and(is_leading)
 }
 
 // The record of a page before any chain is walked.
 fn judge(at: PageAddress, label: Option<Label>, leading: bool) -> Record
     ensures { result ≡ judged_at at.page label leading }
 {
-    if at.page == 0 {
-        return Record::bare(Verdict::Reserved);
-    }
     match label {
+        _ if at.page == 0 => Record::bare(Verdict::Reserved),
         None => Record::bare(Verdict::Aside),
-        Some(l) => {
-            if l.is_free() {
-                Record::bare(Verdict::Free)
-            } else if leading {
-                Record::filed(Verdict::Chained, at, l)
-            } else {
-                Record::filed(Verdict::Stray, PageAddress { page: 0 }, l)
-            }
-        }
+        Some(l) if l.is_free() => Record::bare(Verdict::Free),
+        Some(l) if leading => Record::filed(Verdict::Chained, at, l),
+        Some(l) => Record::filed(Verdict::Stray, PageAddress { page: 0 }, l),
     }
 }
 
-// Judges each page by its label alone, and lists the leaders; answers how many there are.
-pub(crate) fn scan<R: Reader>(reader: &mut R, table: &mut [Record], leaders: &mut [u16]) -> usize
-    requires { (length (R.Reader.medium reader.old).pages ≤ length table.old) × (length (R.Reader.medium reader.old).pages ≤ length leaders.old) }
+// Judges each page by its label alone, and lists the leaders, from the lowest up.
+pub(crate) fn scan<R: Reader>(reader: &mut R, table: &mut [Record]) -> ArrayVec<PageAddress, 9744>
+    requires records { length table.old ≡ length (R.Reader.medium reader.old).pages }
+    requires room { length table.old ≤ 9744 }
     ensures same { R.Reader.medium reader.new ≡ R.Reader.medium reader.old }
-    ensures scanned { Scanned (R.Reader.medium reader.old).pages (length (R.Reader.medium reader.old).pages) table.old table.new }
-    ensures listed { Listed (R.Reader.medium reader.old).pages (length (R.Reader.medium reader.old).pages) result leaders.new }
+    ensures scanned { Scanned (R.Reader.medium reader.old).pages (length (R.Reader.medium reader.old).pages) table.new }
+    ensures listed { Listed (R.Reader.medium reader.old).pages (length (R.Reader.medium reader.old).pages) result.items }
 {
-    let n = reader.cylinders().pages();
-    let mut count = 0;
-    for page in 0..n {
-        let at = PageAddress { page };
+    let mut leaders = ArrayVec::new();
+    for (page, record) in table.iter_mut().enumerate() {
+        let at = PageAddress { page: page as u16 };
         let label = reader.read_label(at);
         let leading = is_leader(at, label);
-        table[page as usize] = judge(at, label, leading);
+        *record = judge(at, label, leading);
         if leading {
-            leaders[count] = page;
-            count += 1;
+            leaders.push(at);
         }
     }
-    count
+    leaders
 }

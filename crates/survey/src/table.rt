@@ -38,7 +38,7 @@ pub struct Record {
 }
 
 // How many pages of each verdict a survey found.
-#[derive(Clone, Copy, PartialEq, Eq, Debug)]
+#[derive(Clone, Copy, Default, PartialEq, Eq, Debug)]
 pub struct Totals {
     pub reserved: u16,
     pub free: u16,

@@ -1,6 +1,5 @@
-ghost use Rattle.std.specs.Prelude.{◌≡◌, ℕ, ◌<◌, ◌≤◌, true, length, Some, slice_index};
+ghost use Rattle.std.specs.Prelude.{◌≡◌, ◌≤◌, true, length, Some, All};
 ghost use Rattle.disk.specs.Addresses.{page_named};
-ghost use Rattle.disk.specs.Media.{label_at};
 ghost use Rattle.survey.specs.Chains.{is_leader, joins, rivalled};
 ghost use Rattle.survey.specs.Steps.{Linked, Marked, MarkedAll};
 
@@ -12,11 +11,7 @@ use disk::{Cylinders, Label, PageAddress, Reader};
 fn is_joined(l: Label, m: Label) -> bool
     ensures { result ≡ joins (Some l) (Some m) }
 {
-    m.is_file()
-        && l.version == m.version
-        && l.serial1 == m.serial1
-        && l.serial2 == m.serial2
-        && m.number as u32 == l.number as u32 + 1
+    m.is_file() && l.id() == m.id() && l.number.checked_add(1) == Some(m.number)
 }
 
 // The page that follows one with that label.
@@ -32,51 +27,40 @@ pub fn next_link<R: Reader>(reader: &mut R, cylinders: Cylinders, label: Label) 
         return None;
     }
     let behind = reader.read_label(page)?;
-    if is_joined(label, behind) {
-        Some(Link {
-            page,
-            label: behind,
-        })
-    } else {
-        None
-    }
+    is_joined(label, behind).then_some(Link {
+        page,
+        label: behind,
+    })
 }
 
 // Marks the pages of the chain of a leader with it, page after page.
 fn walk<R: Reader>(reader: &mut R, table: &mut [Record], leader: PageAddress)
-    requires { (length (R.Reader.medium reader.old).pages ≤ length table.old) × (is_leader (R.Reader.medium reader.old).pages leader.page ≡ true) }
+    requires room { length (R.Reader.medium reader.old).pages ≤ length table.old }
+    requires leads { is_leader (R.Reader.medium reader.old).pages leader.page ≡ true }
     ensures same { R.Reader.medium reader.new ≡ R.Reader.medium reader.old }
     ensures marked { Marked (page_named (R.Reader.medium reader.old).cylinders) (R.Reader.medium reader.old).pages leader.page table.old table.new }
 {
     let cylinders = reader.cylinders();
-    let Some(first) = reader.read_label(leader) else {
-        return;
-    };
-    let mut at = Link {
+    let label = reader.read_label(leader);
+    let mut next = label.map(|label| Link {
         page: leader,
-        label: first,
-    };
-    'chain: loop {
+        label,
+    });
+    while let Some(at) = next {
         table[at.page.page as usize] = Record::filed(Verdict::Chained, leader, at.label);
-        match next_link(reader, cylinders, at.label) {
-            None => return,
-            Some(link) => at = link,
-        }
+        next = next_link(reader, cylinders, at.label);
     }
 }
 
-// Marks the chains of the first `count` leaders of a list, on a pack without rivals.
-pub(crate) fn walk_all<R: Reader>(
-    reader: &mut R,
-    table: &mut [Record],
-    leaders: &[u16],
-    count: usize,
-)
-    requires { (length (R.Reader.medium reader.old).pages ≤ length table.old) × ((count ≤ length leaders.now) × ((((j : ℕ) → j < count → is_leader (R.Reader.medium reader.old).pages (slice_index leaders.now j) ≡ true)) × (rivalled (R.Reader.medium reader.old).pages ≡ 0))) }
+// Marks the chains of these leaders, on a pack without rivals.
+pub(crate) fn walk_all<R: Reader>(reader: &mut R, table: &mut [Record], leaders: &[PageAddress])
+    requires room { length (R.Reader.medium reader.old).pages ≤ length table.old }
+    requires leaders { All (λ a. is_leader (R.Reader.medium reader.old).pages a.page ≡ true) leaders.now }
+    requires no_rivals { rivalled (R.Reader.medium reader.old).pages ≡ 0 }
     ensures same { R.Reader.medium reader.new ≡ R.Reader.medium reader.old }
-    ensures marked { MarkedAll (page_named (R.Reader.medium reader.old).cylinders) (R.Reader.medium reader.old).pages leaders.now count table.old table.new }
+    ensures marked { MarkedAll (page_named (R.Reader.medium reader.old).cylinders) (R.Reader.medium reader.old).pages leaders.now table.old table.new }
 {
-    for i in 0..count {
-        walk(reader, table, PageAddress { page: leaders[i] });
+    for leader in leaders {
+        walk(reader, table, *leader);
     }
 }

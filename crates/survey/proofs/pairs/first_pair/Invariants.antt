@@ -1,6 +1,6 @@
-use Rattle.std.proofs.Common.{◌≡◌, ℕ, ◌<◌, false}
-use Rattle.survey.specs.Steps.{alike}
+use Rattle.std.proofs.Common.{◌≡◌, drop}
+use Rattle.survey.specs.Steps.{pair_of}
 use Rattle.survey.proofs.pairs.first_pair.Given as goal
 
 abbrev pub invariant-loop-i : goal.invariant-loop-i
-invariant-loop-i l = (g h : ℕ) → g < l.i → g < h → h < l.count → alike l.table l.leaders g h ≡ false
+invariant-loop-i l = pair_of l.table (drop l.i l.pages) ≡ pair_of l.table l.pages

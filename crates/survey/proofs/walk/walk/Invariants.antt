@@ -1,13 +1,12 @@
 use Rattle.std.proofs.Common.{◌≡◌, length}
 use Rattle.disk.specs.Addresses.{page_named}
-use Rattle.survey.specs.Chains.{rest}
-use Rattle.survey.specs.Steps.{Walking}
+use Rattle.survey.proofs.Marking.{Walking, ahead}
 use Rattle.survey.proofs.walk.walk.Given as goal
 
-abbrev pub invariant-chain : goal.invariant-chain
-invariant-chain g l =
+abbrev pub invariant-loop-next : goal.invariant-loop-next
+invariant-loop-next g l =
     (g.R.Reader.medium l.reader ≡ g.R.Reader.medium l.initial.reader)
-    × Walking (page_named l.cylinders.count) (g.R.Reader.medium l.initial.reader).pages l.leader.page l.at.page.page l.at.label l.initial.table l.table
+    × Walking (page_named l.cylinders.count) (g.R.Reader.medium l.initial.reader).pages l.leader.page l.next l.initial.table l.table
 
-abbrev pub decreases-chain : goal.decreases-chain
-decreases-chain g l = length (rest (page_named l.cylinders.count) (g.R.Reader.medium l.initial.reader).pages l.at.page.page)
+abbrev pub decreases-loop-next : goal.decreases-loop-next
+decreases-loop-next g l = length (ahead (page_named l.cylinders.count) (g.R.Reader.medium l.initial.reader).pages l.next)
