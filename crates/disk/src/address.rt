@@ -12,7 +12,7 @@ pub struct RealAddress {
 }
 
 // A page by its place in the pack, from 0.
-#[derive(Clone, Copy, PartialEq, Eq, PartialOrd, Ord, Debug)]
+#[derive(Clone, Copy, Default, PartialEq, Eq, PartialOrd, Ord, Debug)]
 pub struct PageAddress {
     pub page: u16,
 }
