@@ -1,5 +1,5 @@
 -- The slots of a table: finding a page's slot, and keeping a new part in it.
-use Rattle.std.proofs.Common.{◌≡◌, ℕ, ◌+◌, ◌-◌, ◌<◌, true, false, cond, eqb, ltb, List, [], ◌∷◌, ◌++◌, length, get_or, set, Some, None, Ok, Err, Result, ◌↔◌, sym, refl, ap, ◌∙◌, inl, inr, arith}
+use Rattle.std.proofs.Common.{◌≡◌, ℕ, ◌+◌, ◌-◌, ◌<◌, ◌≤◌, true, false, cond, eqb, ltb, List, [], ◌∷◌, ◌++◌, length, get_or, set, Some, None, Ok, Err, Result, ◌↔◌, sym, refl, ap, ◌∙◌, inl, inr, arith}
 use Rattle.std.specs.List.{find, position, refill}
 use Rattle.std.specs.Result.{is_ok, IsOk, IsErr, OnOk, OnErr}
 use lib.ListN.{length-map}
@@ -8,7 +8,7 @@ use Rattle.std.proofs.lemmas.List.Sums.{prefix_len-le-length}
 use Rattle.std.proofs.lemmas.Grind.{common_steps}
 use Rattle.disk.specs.Media.{Part}
 use Rattle.overlay.specs.declared.slot.Slot.{Slot}
-use Rattle.overlay.specs.Slots.{empty_slot, with_part, slot_of, held_pages, has_slot}
+use Rattle.overlay.specs.Slots.{empty_slot, with_part, slot_of, held_pages, has_slot, room}
 use Rattle.overlay.specs.Placing.{opened, stored, place, Opened, Kept}
 
 -- A page's slot as a search finds it.
@@ -63,7 +63,7 @@ pub open_found : {E : Type 0} (ss : List Slot) (p i : ℕ) → Some i ≡ positi
 open_found ss p i e =
     elim (cases_Bool (ltb (place ss p) (length ss))) [
       | inl f ↦
-          let h = or_left (has_slot (held_pages ss) p) _ (has_place ss p ∙ f) in
+          let h : room (held_pages ss) p ≡ true = or_left (has_slot (held_pages ss) p) _ (has_place ss p ∙ f) in
           record {
             answer = sym h;
             here = grind (arith, common_steps, e, f);
@@ -73,13 +73,13 @@ open_found ss p i e =
       | inr f ↦ absurd (grind (arith, common_steps, e, f))
     ]
 
-pub open_new : {D E : Type 0} (ss ts : List Slot) (p n : ℕ) (s : Slot) (r : Result (Unit {0}) D) → None ≡ position (λ s. eqb s.page.page p) ss → true ≡ is_ok r → (IsOk r ↔ (length ss < 64)) → OnOk r (ts ≡ ss ++ s ∷ []) → s ≡ empty_slot p → n ≡ length ts → Opened {E = E} ss p (Ok (n - 1)) ts
-open_new ss ts p n s (Err d) e g v o t l = absurd (grind (arith, common_steps, g))
-open_new ss ts p n s (Ok u) e g v o t l =
+pub open_new : {D E : Type 0} (ss ts : List Slot) (p cap n : ℕ) (s : Slot) (r : Result (Unit {0}) D) → None ≡ position (λ s. eqb s.page.page p) ss → true ≡ is_ok r → (IsOk r ↔ (length ss < cap)) → cap ≤ 64 → OnOk r (ts ≡ ss ++ s ∷ []) → s ≡ empty_slot p → n ≡ length ts → Opened {E = E} ss p (Ok (n - 1)) ts
+open_new ss ts p cap n s (Err d) e g v b o t l = absurd (grind (arith, common_steps, g))
+open_new ss ts p cap n s (Ok u) e g v b o t l =
     elim (cases_Bool (ltb (place ss p) (length ss))) [
       | inl f ↦ absurd (grind (arith, common_steps, e, f))
       | inr f ↦
-          let h = or_right (has_slot (held_pages ss) p) _ (lt-ltb _ 64 (omega (arith, v.0 refl, length-map ss (λ s. s.page.page)))) in
+          let h : room (held_pages ss) p ≡ true = or_right (has_slot (held_pages ss) p) _ (lt-ltb _ 64 (omega (arith, v.0 refl, b, length-map ss (λ s. s.page.page)))) in
           let k : length ts ≡ length ss + 1 = grind (arith, common_steps, o) in
           record {
             answer = sym h;
@@ -89,15 +89,15 @@ open_new ss ts p n s (Ok u) e g v o t l =
           }
     ]
 
-pub open_full : {D E : Type 0} (ss ts : List Slot) (p : ℕ) (r : Result (Unit {0}) D) (q : Result ℕ E) → None ≡ position (λ s. eqb s.page.page p) ss → false ≡ is_ok r → OnErr r (ts ≡ ss) → OnErr r (length ss ≡ 64) → IsErr q → Opened ss p q ts
-open_full ss ts p (Ok u) q e g t l h = absurd (grind (arith, common_steps, g))
-open_full ss ts p (Err d) (Ok i) e g t l h = absurd (grind (arith, common_steps, h))
-open_full ss ts p (Err d) (Err b) e g t l h =
+pub open_full : {D E : Type 0} (ss ts : List Slot) (p n : ℕ) (r : Result (Unit {0}) D) (q : Result ℕ E) → None ≡ position (λ s. eqb s.page.page p) ss → false ≡ is_ok r → OnErr r (ts ≡ ss) → OnErr r (length ss ≡ n) → 64 ≤ n → IsErr q → Opened ss p q ts
+open_full ss ts p n (Ok u) q e g t l b h = absurd (grind (arith, common_steps, g))
+open_full ss ts p n (Err d) (Ok i) e g t l b h = absurd (grind (arith, common_steps, h))
+open_full ss ts p n (Err d) (Err x) e g t l b h =
     elim (cases_Bool (ltb (place ss p) (length ss))) [
       | inl f ↦ absurd (grind (arith, common_steps, e, f))
       | inr f ↦
-          let n = or_from (has_slot (held_pages ss) p) _ (has_place ss p ∙ f) (le-ltb (length (held_pages ss)) 64 (omega (arith, l, length-map ss (λ s. s.page.page)))) in
-          record { answer = sym n; here = tt; inside = tt; slots = t ∙ sym (cond-false _ (opened ss p) ss n) }
+          let m : room (held_pages ss) p ≡ false = or_from (has_slot (held_pages ss) p) _ (has_place ss p ∙ f) (le-ltb (length (held_pages ss)) 64 (omega (arith, l, b, length-map ss (λ s. s.page.page)))) in
+          record { answer = sym m; here = tt; inside = tt; slots = t ∙ sym (cond-false _ (opened ss p) ss m) }
     ]
 
 -- A new part in the slot that was opened.
