@@ -1,7 +1,10 @@
 -- The first free page of a range, and of two ranges one after the other.
-use Rattle.std.proofs.Common.{◌≡◌, ℕ, zero, suc, ◌+◌, ◌-◌, ◌/◌, ◌%◌, ◌<◌, ◌≤◌, ◌&&◌, eqb, leb, List, get_or, Some, None, Option, refl, ap, ◌∙◌, inl, inr, arith}
-use Rattle.std.proofs.lemmas.Bool.{eqb-true, eqb-false, leb-true, cases_lt, cases_eq, cond_both, cond-true, and_parts, and_from, le-leb}
+use Rattle.std.proofs.Common.{◌≡◌, ℕ, zero, suc, ◌+◌, ◌-◌, ◌/◌, ◌%◌, ◌<◌, ◌≤◌, ◌&&◌, eqb, leb, ltb, List, get_or, Some, None, Option, refl, ap, ◌∙◌, inl, inr, arith}
+use Rattle.std.proofs.lemmas.Bool.{eqb-true, eqb-false, leb-true, ltb-true, ltb-false, cases_lt, cases_eq, cases_Bool, cond_both, cond-true, and_parts, and_from, le-leb}
+use Rattle.std.specs.Bool.{then_some}
+use Rattle.std.specs.Option.{option_map, MatchOption}
 use Rattle.disk.specs.Labels.{bit}
+use Rattle.disk.specs.declared.address.PageAddress.{PageAddress}
 use Rattle.bits.specs.Bits.{page_bit, first_free, or_else, round_free, start_page, AllTaken, First, SomeFree, Run}
 use Rattle.bits.proofs.Tables.{one_or_nought}
 
@@ -81,14 +84,20 @@ unfolding round_free
 round_from ws start n h o =
     both ws start n (first_free ws start (n - start)) (first_free ws 1 (start - 1)) h o (first_free_is ws start (n - start)) (first_free_is ws 1 (start - 1))
 
--- The two ways that the code goes.
-pub round_first : (ws : List ℕ) (start n p : ℕ) → Some p ≡ first_free ws start (n - start) → Some p ≡ round_free ws start n
-unfolding round_free
-round_first ws start n p e = ap (λ r. or_else r (first_free ws 1 (start - 1))) e
+-- A page where a search stops, which may lie past the range.
+pub stop_is : (ws : List ℕ) (a b q : ℕ) → a ≤ q → page_bit ws q ≡ 0 → AllTaken ws a q → option_map {T = PageAddress} (λ x. x.page) (then_some (ltb q b) (record { page = q })) ≡ first_free ws a (b - a)
+stop_is ws a b q l z f =
+    elim (cases_Bool (ltb q b)) [
+      | inl e ↦ ap (λ t. option_map (λ x. x.page) (then_some {T = PageAddress} t (record { page = q }))) e ∙ first_is ws a b (Some q) (record { from = l; below = ltb-true q b e; free = z; before = f })
+      | inr e ↦ ap (λ t. option_map (λ x. x.page) (then_some {T = PageAddress} t (record { page = q }))) e ∙ first_is ws a b None (λ p h u. f p h (omega (arith, ltb-false q b e)))
+    ]
 
-pub round_second : (ws : List ℕ) (start n : ℕ) (r : Option ℕ) → None ≡ first_free ws start (n - start) → r ≡ first_free ws 1 (start - 1) → r ≡ round_free ws start n
+-- The first range, or else the second.
+pub round_is : (ws : List ℕ) (start n : ℕ) (Q : Type 0) (r s : Option PageAddress) → option_map (λ a. a.page) r ≡ first_free ws start (n - start)
+    → MatchOption r Q (λ x. s ≡ Some x) → (Q → option_map (λ a. a.page) s ≡ first_free ws 1 (start - 1)) → option_map (λ a. a.page) s ≡ round_free ws start n
 unfolding round_free
-round_second ws start n r e d = d ∙ ap (λ o. or_else o (first_free ws 1 (start - 1))) e
+round_is ws start n Q (Some x) s e m f = ap (option_map (λ a. a.page)) m ∙ ap (λ o. or_else o (first_free ws 1 (start - 1))) e
+round_is ws start n Q None s e m f = f m ∙ ap (λ o. or_else o (first_free ws 1 (start - 1))) e
 
 pub round_free_is : (ws : List ℕ) (start n : ℕ) → 1 ≤ start → start ≤ n → SomeFree ws n (round_free ws start n)
 round_free_is ws start n o l = round_from ws start n (λ p h u. omega arith) o

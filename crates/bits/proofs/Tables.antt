@@ -2,6 +2,7 @@
 use Rattle.std.proofs.Common.{◌≡◌, ℕ, zero, suc, ◌+◌, ◌-◌, ◌*◌, ◌/◌, ◌%◌, ◌^◌, ◌<◌, List, [], ◌∷◌, length, get_or, set, sym, refl, ap, ◌∙◌, subst, inl, inr, pow-suc, arith, pow_pos}
 use lib.Count.{ones, ones-le, ones_step}
 use Rattle.std.proofs.lemmas.List.{length-set, get_or-set_same, get_or-set_other, set-get_or, get_or_past, get_or-replicate, length-replicate}
+use Rattle.std.specs.List.{sum_by}
 use Rattle.std.proofs.ByRecursion.{All-get_or, All-from_get_or, All-set}
 use Rattle.std.proofs.lemmas.List.Sums.{sum_by-cons}
 use Rattle.std.proofs.lemmas.Bool.{cases_eq, cases_lt}
@@ -159,7 +160,7 @@ ones_rest (suc s) w h =
     let r = ones_rest s (w / 2) (omega arith) in
     omega arith
 
-pub zeros_of : (w : ℕ) → w < 65536 → ones (65535 - w) ≡ 16 - ones w
+zeros_of : (w : ℕ) → w < 65536 → ones (65535 - w) ≡ 16 - ones w
 zeros_of w h = omega (arith, ones_rest 16 w h)
 
 pub all_bits : (ws : List ℕ) → Words ws → ones_in ws + zeros_in ws ≡ 16 * length ws
@@ -170,4 +171,15 @@ all_bits (w ∷ ws) f =
     let b = sum_by-cons (λ v. 16 - ones v) w ws in
     let l = ones-le 16 w f.0 in
     let r = all_bits ws f.1 in
+    omega arith
+
+-- The zeros of a table, counted as the code does.
+pub zeros_are : (ws : List ℕ) → ((i : ℕ) → i < length ws → get_or ws i 0 < 65536) → sum_by (λ w. ones (65535 - w)) ws ≡ zeros_in ws
+unfolding zeros_in
+zeros_are [] f = refl
+zeros_are (w ∷ ws) f =
+    let a = sum_by-cons (λ v. ones (65535 - v)) w ws in
+    let b = sum_by-cons (λ v. 16 - ones v) w ws in
+    let z = zeros_of w (f 0 (omega arith)) in
+    let r = zeros_are ws (λ i h. f (suc i) (omega arith)) in
     omega arith

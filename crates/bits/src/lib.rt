@@ -16,6 +16,7 @@ pub struct BitTable {
 }
 
 impl BitTable {
+    #[tactic(auto, unfolding(crate::specs::Bits::none_free))]
     pub fn none_free() -> BitTable
         ensures { result.words ≡ none_free }
     {
@@ -24,6 +25,7 @@ impl BitTable {
         }
     }
 
+    #[tactic(auto, unfolding(crate::specs::Bits::page_bit))]
     pub fn is_free(&self, at: PageAddress) -> bool
         ensures { result ≡ (nat_lt at.page 9744 && page_bit self.now.words at.page == 0) }
     {
@@ -54,28 +56,24 @@ impl BitTable {
     {
         let end = pages.min(PAGES);
         let first = start_page(start.page, end);
-        match self.first_free(first, end) {
-            Some(page) => Some(PageAddress { page }),
-            None => match self.first_free(1, first) {
-                Some(page) => Some(PageAddress { page }),
-                None => None,
-            },
-        }
+        self.first_free(first, end)
+            .or_else(|| self.first_free(1, first))
     }
 
     // The first free page from a up to b - 1.
-    fn first_free(&self, a: u16, b: u16) -> Option<u16>
+    fn first_free(&self, a: u16, b: u16) -> Option<PageAddress>
         requires { b ≤ 9744 }
-        ensures { result ≡ first_free self.now.words a (b - a) }
+        ensures { option_map (λ a. a.page) result ≡ first_free self.now.words a (b - a) }
     {
+        // not a `for` over the words: the first begins at bit a % 16, and the page is p, not the word's place
         let mut p = a;
         while p < b {
             let n = ones_from(self.words[p as usize / 16], p % 16);
-            let q = p - p % 16 + n;
+            let page = p - p % 16 + n;
             if n < 16 {
-                return if q < b { Some(q) } else { None };
+                return (page < b).then_some(PageAddress { page });
             }
-            p = q;
+            p = page;
         }
         None
     }
@@ -84,22 +82,14 @@ impl BitTable {
     pub fn ones(&self) -> u32
         ensures { result ≡ ones_in self.now.words }
     {
-        let mut n = 0;
-        for w in &self.words {
-            n += w.count_ones();
-        }
-        n
+        self.words.iter().map(|w| w.count_ones()).sum()
     }
 
     // How many bits are 0.
     pub fn zeros(&self) -> u32
         ensures { result ≡ zeros_in self.now.words }
     {
-        let mut n = 0;
-        for w in &self.words {
-            n += w.count_zeros();
-        }
-        n
+        self.words.iter().map(|w| w.count_zeros()).sum()
     }
 }
 
@@ -107,7 +97,7 @@ impl BitTable {
 fn start_page(start: u16, pages: u16) -> u16
     ensures { result ≡ start_page start pages }
 {
-    if 1 <= start && start <= pages {
+    if (1..=pages).contains(&start) {
         start
     } else {
         1

@@ -1,10 +1,9 @@
 -- Slots laid over pages: what is read there, and what a write does.
-use Rattle.std.proofs.Common.{◌≡◌, ℕ, ◌<◌, ◌≤◌, Bool, true, false, cond, ◌||◌, eqb, List, [], ◌∷◌, ◌++◌, map, length, get_or, set, Some, None, Option, sym, refl, ap, ◌∙◌, inl, inr, arith, length-set}
+use Rattle.std.proofs.Common.{◌≡◌, ℕ, ◌<◌, ◌≤◌, Bool, true, false, cond, ◌||◌, eqb, ltb, List, [], ◌∷◌, ◌++◌, map, length, get_or, set, Some, None, sym, refl, ap, ◌∙◌, inl, inr, arith, length-set}
 use Rattle.std.specs.List.{range_with_len}
 use Rattle.std.proofs.lemmas.List.FromFn.{length-map-range_with_len, get_or-map-range_with_len}
 use Rattle.std.proofs.lemmas.List.{get_or_past, get_or-set_same, get_or-set_other, ext_get_or}
-use Rattle.std.proofs.lemmas.Bool.{eq-eqb, ne_eqb, cases_eq, cond-true, cond-false, or_left}
-use Rattle.disk.specs.declared.label.Label.{Label}
+use Rattle.std.proofs.lemmas.Bool.{eq-eqb, ne_eqb, cases_eq, cases_Bool, ltb-true, ltb-false, cond-true, cond-false, or_left}
 use Rattle.disk.specs.Media.{Page, unreadable, Part, a_label, a_data, put, label_at, data_at}
 use Rattle.overlay.specs.declared.slot.Slot.{Slot}
 use Rattle.overlay.specs.Slots.{empty_slot, with_part, slot_of, held_pages, has_slot}
@@ -127,21 +126,17 @@ held_stored (s ∷ ss) p x =
           ap (λ b. cond b (held_pages (s ∷ ss)) (held_pages (s ∷ ss) ++ p ∷ [])) (sym (has_later s ss p e))))
     ]
 
--- What a read answers where a slot holds the part, where none does, and past the last page.
-pub label_held : (ss : List Slot) (ps : List Page) (p : ℕ) (l : Label) → p < length ps → Some l ≡ (slot_of ss p).label → Some l ≡ label_at (laid ss ps) p
-label_held ss ps p l h e = sym (ap (λ y. y.label) (at_laid ss ps p h) ∙ ap (λ o. else_below o (label_at ps p)) (sym e))
+-- What a read of a page answers: the part in its slot, or else the part below; past the last page, nothing.
+pub label_laid : (ss : List Slot) (ps : List Page) (p : ℕ) → label_at (laid ss ps) p ≡ cond (ltb p (length ps)) (else_below (slot_of ss p).label (label_at ps p)) None
+label_laid ss ps p =
+    elim (cases_Bool (ltb p (length ps))) [
+      | inl h ↦ ap (λ y. y.label) (at_laid ss ps p (ltb-true _ _ h)) ∙ sym (cond-true _ (else_below (slot_of ss p).label (label_at ps p)) None h)
+      | inr h ↦ ap (λ y. y.label) (past_laid ss ps p (ltb-false _ _ h)) ∙ sym (cond-false _ (else_below (slot_of ss p).label (label_at ps p)) None h)
+    ]
 
-pub label_below : (ss : List Slot) (ps : List Page) (p : ℕ) (r : Option Label) → p < length ps → None ≡ (slot_of ss p).label → r ≡ label_at ps p → r ≡ label_at (laid ss ps) p
-label_below ss ps p r h e a = a ∙ sym (ap (λ y. y.label) (at_laid ss ps p h) ∙ ap (λ o. else_below o (label_at ps p)) (sym e))
-
-pub label_past : (ss : List Slot) (ps : List Page) (p : ℕ) → length ps ≤ p → None ≡ label_at (laid ss ps) p
-label_past ss ps p h = sym (ap (λ y. y.label) (past_laid ss ps p h))
-
-pub data_held : (ss : List Slot) (ps : List Page) (p : ℕ) (d : List ℕ) → p < length ps → Some d ≡ (slot_of ss p).words → Some d ≡ data_at (laid ss ps) p
-data_held ss ps p d h e = sym (ap (λ y. y.words) (at_laid ss ps p h) ∙ ap (λ o. else_below o (data_at ps p)) (sym e))
-
-pub data_below : (ss : List Slot) (ps : List Page) (p : ℕ) (r : Option (List ℕ)) → p < length ps → None ≡ (slot_of ss p).words → r ≡ data_at ps p → r ≡ data_at (laid ss ps) p
-data_below ss ps p r h e a = a ∙ sym (ap (λ y. y.words) (at_laid ss ps p h) ∙ ap (λ o. else_below o (data_at ps p)) (sym e))
-
-pub data_past : (ss : List Slot) (ps : List Page) (p : ℕ) → length ps ≤ p → None ≡ data_at (laid ss ps) p
-data_past ss ps p h = sym (ap (λ y. y.words) (past_laid ss ps p h))
+pub data_laid : (ss : List Slot) (ps : List Page) (p : ℕ) → data_at (laid ss ps) p ≡ cond (ltb p (length ps)) (else_below (slot_of ss p).words (data_at ps p)) None
+data_laid ss ps p =
+    elim (cases_Bool (ltb p (length ps))) [
+      | inl h ↦ ap (λ y. y.words) (at_laid ss ps p (ltb-true _ _ h)) ∙ sym (cond-true _ (else_below (slot_of ss p).words (data_at ps p)) None h)
+      | inr h ↦ ap (λ y. y.words) (past_laid ss ps p (ltb-false _ _ h)) ∙ sym (cond-false _ (else_below (slot_of ss p).words (data_at ps p)) None h)
+    ]

@@ -1,5 +1,5 @@
 -- What an overlay means, and what a write to it does.
-use Rattle.std.specs.Prelude.{◌≡◌, ℕ, Bool, false, cond, not, ◌&&◌, ◌||◌, List, [], ◌∷◌, ◌++◌, map, length, take, Some, None, Ok, Err, Option, Result, nat_lt}
+use Rattle.std.specs.Prelude.{◌≡◌, ℕ, Bool, false, cond, not, ◌&&◌, ◌||◌, List, [], ◌∷◌, ◌++◌, map, length, Some, None, Ok, Err, Option, Result, nat_lt}
 use Rattle.std.specs.List.{range_with_len}
 use Rattle.disk.specs.declared.refusal.Refusal.{Refusal}
 use Rattle.disk.specs.Media.{Page, label_at, data_at, Medium, Write, put}
@@ -26,9 +26,9 @@ laid ss ps = map (λ p. page_over (slot_of ss p) ps p) (range_with_len 0 (length
 abbrev pub overlay_medium : List Slot → Medium → Bool → Medium
 overlay_medium ss below on = record { cylinders = below.cylinders; pages = laid ss below.pages; on = on; steady = false }
 
--- The slots of a table that are used.
+-- The slots of a table.
 abbrev pub held : SlotTable → List Slot
-held t = take t.used t.slots
+held t = t.slots.items
 
 -- What an overlay means by what its reader means, and the pages that have a slot in it.
 abbrev pub medium_over : {R : Type 0} → (R → Medium) → Overlay R → Medium

@@ -1,5 +1,7 @@
 -- How the table finds a page's slot and keeps a part in it.
-use Rattle.std.specs.Prelude.{◌≡◌, ℕ, ◌<◌, true, false, cond, List, [], ◌∷◌, take, Some, None, Option, ◌==◌, ◌≢◌, slice_index_or}
+use Rattle.std.specs.Prelude.{◌≡◌, ℕ, ◌<◌, cond, List, [], ◌∷◌, length, Result, ◌==◌, IfOk}
+use Rattle.std.specs.List.{position_or_len}
+use Rattle.std.specs.Result.{is_ok}
 use Rattle.disk.specs.Media.{Part}
 use Rattle.overlay.specs.declared.slot.Slot.{Slot}
 use Rattle.overlay.specs.Slots.{empty_slot, with_part, held_pages, room}
@@ -14,27 +16,18 @@ unfoldable pub stored : List Slot → ℕ → Part → List Slot
 stored [] p x = with_part (empty_slot p) x ∷ []
 stored (s ∷ ss) p x = cond (s.page.page == p) (with_part s x ∷ ss) (s ∷ stored ss p x)
 
--- Where the first slot of page p stands, among those that are used.
-pub record At (ss : List Slot) (used p i : ℕ) : Type 0 where
-  pub inside : i < used
-  pub here : (slice_index_or ss i (empty_slot 0)).page.page ≡ p
-  pub first : (k : ℕ) → k < i → (slice_index_or ss k (empty_slot 0)).page.page ≢ p
-
-abbrev pub Nowhere : List Slot → ℕ → ℕ → Type 0
-Nowhere ss used p = (k : ℕ) → k < used → (slice_index_or ss k (empty_slot 0)).page.page ≢ p
-
--- What a search for page p answers.
-abbrev pub Found : List Slot → ℕ → ℕ → Option ℕ → Type 0
-Found ss used p (Some i) = At ss used p i
-Found ss used p None = Nowhere ss used p
+-- Where the first slot of page p stands, or the place behind the last slot.
+abbrev pub place : List Slot → ℕ → ℕ
+place ss p = position_or_len (λ s. s.page.page == p) ss
 
 -- What opening a slot for page p answers, and the slots after it.
-abbrev pub Opened : List Slot → ℕ → ℕ → Option ℕ → List Slot → ℕ → Type 0
-Opened ss used p (Some i) ts later =
-    (room (held_pages (take used ss)) p ≡ true) × At ts later p i × (take later ts ≡ opened (take used ss) p)
-Opened ss used p None ts later = (room (held_pages (take used ss)) p ≡ false) × (take later ts ≡ take used ss)
+pub record Opened {E : Type 0} (ss : List Slot) (p : ℕ) (r : Result ℕ E) (ts : List Slot) : Type 0 where
+  pub answer : is_ok r ≡ room (held_pages ss) p
+  pub here : IfOk r (λ i. i ≡ place ss p)
+  pub inside : IfOk r (λ i. i < length ts)
+  pub slots : ts ≡ cond (room (held_pages ss) p) (opened ss p) ss
 
 -- What keeping a new part of page p answers, and the slots after it.
-pub record Kept (ss : List Slot) (p : ℕ) (x : Part) (r : Option (Unit {0})) (ts : List Slot) : Type 0 where
-  pub answer : r ≡ cond (room (held_pages ss) p) (Some tt) None
+pub record Kept {E : Type 0} (ss : List Slot) (p : ℕ) (x : Part) (r : Result (Unit {0}) E) (ts : List Slot) : Type 0 where
+  pub answer : is_ok r ≡ room (held_pages ss) p
   pub slots : ts ≡ cond (room (held_pages ss) p) (stored ss p x) ss

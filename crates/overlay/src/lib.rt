@@ -1,7 +1,8 @@
 // A drive laid over a reader: what is written stays in the drive, and never goes below.
 #![tactic(auto)]
 
-ghost use Rattle.std.specs.Prelude.{◌≡◌, ◌≤◌, true, false, ◌&&◌, [], length, if◌then◌else◌, Ok, Err, nat_lt};
+ghost use Rattle.std.specs.Prelude.{◌≡◌, ◌≤◌, true, false, ◌&&◌, [], length, IfErr, nat_lt};
+ghost use Rattle.std.specs.Result.{is_ok};
 ghost use Rattle.disk.specs.Refusals.{hardware};
 ghost use Rattle.disk.specs.Media.{label_at, data_at, label_write, data_write, Written, spun_up};
 ghost use Rattle.overlay.specs.Overlays.{medium_over, pages_held, Exactly};
@@ -21,6 +22,7 @@ pub struct Overlay<R> {
 }
 
 impl<R: Reader> Overlay<R> {
+    #[tactic(auto, using(crate::proofs::Laying::laid_none))]
     pub fn new(below: R) -> Overlay<R>
         ensures medium { medium_over R.Reader.medium result ≡ record { cylinders = (R.Reader.medium below).cylinders; pages = (R.Reader.medium below).pages; on = true; steady = false } }
         ensures held { pages_held result ≡ [] }
@@ -62,30 +64,42 @@ impl<R: Reader> Overlay<R> {
 
     // Refuses a write where the drive is off or has no such page.
     fn accepts(&self, at: PageAddress) -> Result<(), Refusal>
-        ensures { result ≡ (if self.now.on && nat_lt at.page (length (R.Reader.medium self.now.below).pages) then Ok tt else Err (hardware at.page)) }
+        ensures variant { is_ok result ≡ (self.now.on && nat_lt at.page (length (R.Reader.medium self.now.below).pages)) }
+        ensures err { IfErr result (λ e. e ≡ hardware at.page) }
     {
         if self.on && self.has(at) {
             Ok(())
         } else {
-            refused(at)
+            Err(refusal(at))
         }
+    }
+
+    // Turns the drive off, for a write that was accepted and cannot be kept.
+    fn give_up(&mut self, at: PageAddress) -> Refusal
+        ensures answer { result ≡ hardware at.page }
+        ensures off { self.new ≡ record { below = self.old.below; table = self.old.table; on = false } }
+    {
+        self.on = false;
+        refusal(at)
     }
 }
 
-// A write to that page was refused.
-fn refused(at: PageAddress) -> Result<(), Refusal>
-    ensures { result ≡ Err (hardware at.page) }
+// What a write to that page is refused with.
+fn refusal(at: PageAddress) -> Refusal
+    ensures { result ≡ hardware at.page }
 {
-    Err(Refusal::new(Reason::Hardware, Place::Drive, at))
+    Refusal::new(Reason::Hardware, Place::Drive, at)
 }
 
 impl<R: Reader> Reader for Overlay<R> {
     ghost medium = { λ d. medium_over R.Reader.medium d };
 
+    #[tactic(auto, using(crate::proofs::Laying::length_laid))]
     fn cylinders(&self) -> Cylinders {
         self.below.cylinders()
     }
 
+    #[tactic(auto, using(crate::proofs::Laying::label_laid))]
     fn read_label(&mut self, at: PageAddress) -> Option<Label>
         ensures answer { result ≡ label_at (medium_over R.Reader.medium self.old).pages at.page }
         ensures same { medium_over R.Reader.medium self.new ≡ medium_over R.Reader.medium self.old }
@@ -95,12 +109,14 @@ impl<R: Reader> Reader for Overlay<R> {
         if !self.has(at) {
             return None;
         }
+        // a match: after `or_else` the proof would not know the reader that its closure borrows
         match self.table.label(at) {
             Some(label) => Some(label),
             None => self.below.read_label(at),
         }
     }
 
+    #[tactic(auto, using(crate::proofs::Laying::data_laid))]
     fn read_data(&mut self, at: PageAddress) -> Option<[u16; 256]>
         ensures answer { result ≡ data_at (medium_over R.Reader.medium self.old).pages at.page }
         ensures same { medium_over R.Reader.medium self.new ≡ medium_over R.Reader.medium self.old }
@@ -110,6 +126,7 @@ impl<R: Reader> Reader for Overlay<R> {
         if !self.has(at) {
             return None;
         }
+        // a match, as in `read_label`
         match self.table.data(at) {
             Some(words) => Some(words),
             None => self.below.read_data(at),
@@ -125,11 +142,8 @@ impl<R: Reader> Drive for Overlay<R> {
     {
         self.accepts(at)?;
         match self.table.put_label(at, label) {
-            Some(()) => Ok(()),
-            None => {
-                self.on = false;
-                refused(at)
-            }
+            Ok(()) => Ok(()),
+            Err(_) => Err(self.give_up(at)),
         }
     }
 
@@ -140,11 +154,8 @@ impl<R: Reader> Drive for Overlay<R> {
     {
         self.accepts(at)?;
         match self.table.put_data(at, words) {
-            Some(()) => Ok(()),
-            None => {
-                self.on = false;
-                refused(at)
-            }
+            Ok(()) => Ok(()),
+            Err(_) => Err(self.give_up(at)),
         }
     }
 

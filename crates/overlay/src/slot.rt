@@ -5,7 +5,7 @@ ghost use Rattle.overlay.specs.Slots.{empty_slot, with_part};
 use disk::{Label, PageAddress};
 
 // A page that was written: its new label, its new data, or both.
-#[derive(Clone, Copy)]
+#[derive(Clone, Copy, Default)]
 pub struct Slot {
     pub page: PageAddress,
     pub label: Option<Label>,

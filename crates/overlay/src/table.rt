@@ -1,121 +1,93 @@
-ghost use Rattle.std.specs.Prelude.{◌≡◌, ◌≤◌, length, take, if◌then◌else◌, Some, None, nat_lt};
+ghost use Rattle.std.specs.Prelude.{◌≡◌, ◌≤◌, [], length, ◌==◌, find, position};
+ghost use Rattle.std.specs.Option.{option_map};
 ghost use Rattle.disk.specs.Media.{a_label, a_data};
 ghost use Rattle.overlay.specs.Slots.{slot_of, held_pages};
-ghost use Rattle.overlay.specs.Placing.{Found, Opened, Kept};
+ghost use Rattle.overlay.specs.Placing.{Opened, Kept};
 
 use crate::slot::Slot;
+use arrayvec::{ArrayVec, CapacityError};
 use disk::{Label, PageAddress};
 
-// The slots of an overlay, one to a page. The first `used` of them have a page.
+// The slots of an overlay, one to a page.
 #[derive(Drop)]
 pub struct SlotTable {
-    slots: [Slot; 64],
-    used: usize,
-    ghost fits: { used ≤ 64 },
-}
-
-// Which of the first `used` slots a page has.
-fn find(slots: &[Slot], used: usize, at: PageAddress) -> Option<usize>
-    requires { used ≤ length slots.now }
-    ensures { Found slots.now used at.page result }
-{
-    for i in 0..used {
-        if slots[i].page.page == at.page {
-            return Some(i);
-        }
-    }
-    None
+    slots: ArrayVec<Slot, 64>,
 }
 
 impl SlotTable {
     pub fn new() -> SlotTable
-        ensures { result.used ≡ 0 }
+        ensures { result.slots.items ≡ [] }
     {
         SlotTable {
-            slots: [Slot::new(PageAddress { page: 0 }); 64],
-            used: 0,
+            slots: ArrayVec::new(),
         }
-    }
-
-    // The slots that are used.
-    fn held(&self) -> &[Slot]
-        ensures { result.now ≡ take self.now.used self.now.slots }
-    {
-        &self.slots[0..self.used]
     }
 
     pub fn used(&self) -> usize
-        ensures count { result ≡ length (held_pages (take self.now.used self.now.slots)) }
+        ensures count { result ≡ length (held_pages self.now.slots.items) }
         ensures bound { result ≤ 64 }
     {
-        self.held().len()
+        self.slots.len()
     }
 
-    // The slot of a page, or an empty one.
-    fn slot(&self, at: PageAddress) -> Slot
-        ensures { result ≡ slot_of (take self.now.used self.now.slots) at.page }
+    // The slot of a page.
+    fn slot(&self, at: PageAddress) -> Option<&Slot>
+        ensures { option_map (λ s. s.now) result ≡ find (λ s. s.page.page == at.page) self.now.slots.items }
     {
-        match find(&self.slots, self.used, at) {
-            Some(i) => self.slots[i],
-            None => Slot::new(at),
-        }
+        self.slots.iter().find(|s| s.page == at)
     }
 
     // The new label of a page.
+    #[tactic(auto, using(crate::proofs::Keeping::slot_found, crate::proofs::Keeping::slot_missing))]
     pub fn label(&self, at: PageAddress) -> Option<Label>
-        ensures { result ≡ (slot_of (take self.now.used self.now.slots) at.page).label }
+        ensures { result ≡ (slot_of self.now.slots.items at.page).label }
     {
-        self.slot(at).label
+        self.slot(at)?.label
     }
 
     // The new data of a page.
+    #[tactic(auto, using(crate::proofs::Keeping::slot_found, crate::proofs::Keeping::slot_missing))]
     pub fn data(&self, at: PageAddress) -> Option<[u16; 256]>
-        ensures { result ≡ (slot_of (take self.now.used self.now.slots) at.page).words }
+        ensures { result ≡ (slot_of self.now.slots.items at.page).words }
     {
-        self.slot(at).words
+        self.slot(at)?.words
     }
 
-    // The first slot that is not used.
-    fn next_free(&self) -> Option<usize>
-        ensures { result ≡ (if nat_lt self.now.used 64 then Some self.now.used else None) }
+    // Where the slot of a page stands.
+    fn place(&self, at: PageAddress) -> Option<usize>
+        ensures { result ≡ position (λ s. s.page.page == at.page) self.now.slots.items }
     {
-        if self.used < 64 {
-            Some(self.used)
-        } else {
-            None
+        self.slots.iter().position(|s| s.page == at)
+    }
+
+    // Where the slot of a page stands, which is made where it has none.
+    fn open(&mut self, at: PageAddress) -> Result<usize, CapacityError>
+        ensures { Opened self.old.slots.items at.page result self.new.slots.items }
+    {
+        if let Some(i) = self.place(at) {
+            return Ok(i);
         }
+        self.slots
+            .try_push(Slot::new(at))
+            .map_err(CapacityError::simplify)?;
+        Ok(self.slots.len() - 1)
     }
 
-    // The slot that a page has, or the next free one, which is the page's from then on.
-    fn open(&mut self, at: PageAddress) -> Option<usize>
-        ensures { Opened self.old.slots self.old.used at.page result self.new.slots self.new.used }
-    {
-        match find(&self.slots, self.used, at) {
-            Some(i) => Some(i),
-            None => {
-                let i = self.next_free()?;
-                self.slots[i] = Slot::new(at);
-                self.used = i + 1;
-                Some(i)
-            }
-        }
-    }
-
-    // Keeps a new label of a page; none where no slot is left for it.
-    pub fn put_label(&mut self, at: PageAddress, label: Label) -> Option<()>
-        ensures { Kept (take self.old.used self.old.slots) at.page (a_label label) result (take self.new.used self.new.slots) }
+    // Keeps a new label of a page; refused where no slot is left for it.
+    pub fn put_label(&mut self, at: PageAddress, label: Label) -> Result<(), CapacityError>
+        ensures { Kept self.old.slots.items at.page (a_label label) result self.new.slots.items }
     {
         let i = self.open(at)?;
         self.slots[i].set_label(label);
-        Some(())
+        Ok(())
     }
 
-    // Keeps new data of a page; none where no slot is left for it.
-    pub fn put_data(&mut self, at: PageAddress, words: &[u16; 256]) -> Option<()>
-        ensures { Kept (take self.old.used self.old.slots) at.page (a_data words.now) result (take self.new.used self.new.slots) }
+    // Keeps new data of a page; refused where no slot is left for it.
+    pub fn put_data(&mut self, at: PageAddress, words: &[u16; 256]) -> Result<(), CapacityError>
+        ensures { Kept self.old.slots.items at.page (a_data words.now) result self.new.slots.items }
     {
         let i = self.open(at)?;
         self.slots[i].set_data(words);
-        Some(())
+        Ok(())
     }
 }

@@ -1,25 +1,16 @@
-use Rattle.std.proofs.Common.{◌+◌, ◌-◌, ◌%◌, Some, None, arith}
-use Rattle.bits.proofs.Searches.{first_is, passed, stopped}
+use Rattle.std.proofs.Common.{◌+◌, ◌-◌, ◌%◌, None, ap, ◌∙◌, arith}
+use Rattle.std.specs.Option.{option_map}
+use Rattle.bits.proofs.Searches.{first_is, passed, stopped, stop_is}
 use Rattle.bits.proofs.BitTable.first_free.Goals as goal
 
-pub returns-then-q-b : goal.returns-then-q-b
-returns-then-q-b c =
+pub returns-then-n-lt16 : goal.returns-then-n-lt16
+returns-then-n-lt16 c =
     let ws = c.args.self.now.words in
     let p = c.loop-p.p in
     let n = c.ones_from-n.result in
     let r = c.ones_from-n.ensures in
-    first_is ws c.args.a c.args.b (Some (p - p % 16 + n)) (record {
-      from = omega arith;
-      below = c.if-q-b.true;
-      free = stopped ws p n r c.if-n-lt16.true;
-      before = passed ws c.args.a p n c.loop-p.invariant.1 r;
-    })
-
-pub returns-else-q-b : goal.returns-else-q-b
-returns-else-q-b c =
-    let ws = c.args.self.now.words in
-    let past = passed ws c.args.a c.loop-p.p c.ones_from-n.result c.loop-p.invariant.1 c.ones_from-n.ensures in
-    first_is ws c.args.a c.args.b None (λ q l u. past q l (omega arith))
+    ap (option_map (λ a. a.page)) c.then_some.ensures ∙
+    stop_is ws c.args.a c.args.b (p - p % 16 + n) (omega arith) (stopped ws p n r c.if-n-lt16.true) (passed ws c.args.a p n c.loop-p.invariant.1 r)
 
 pub loop-p-preserved : goal.loop-p-preserved
 loop-p-preserved c =

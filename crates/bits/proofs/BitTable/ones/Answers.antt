@@ -1,23 +1,15 @@
-use Rattle.std.proofs.Common.{◌≤◌, get_or, refl, ap, ◌∙◌, arith, rules}
-use lib.Count.{ones, ones-le}
-use Rattle.std.proofs.lemmas.List.{take_all}
-use Rattle.std.proofs.lemmas.List.Sums.{sum_by_more}
+use Rattle.std.proofs.Common.{rules, arith}
+use borrow.Author.Tests.{tests}
+use Rattle.std.proofs.iter.runs.Made.{chains}
+use Rattle.std.proofs.lemmas.Iterator.{YieldsList-from_slice}
+use Rattle.std.proofs.lemmas.Iterator.Adapters.{fits_from_length, at_most_from_yields_List}
 use Rattle.bits.specs.Bits.{ones_in}
 use Rattle.bits.proofs.BitTable.ones.Goals as goal
 
-pub loop-w-init : goal.loop-w-init
-unfolding ones_in
-loop-w-init c = (omega arith, refl)
-
-pub overflow_add-n : goal.overflow_add-n
-overflow_add-n c = let o : ones (get_or c.args.self.now.words c.loop-w.w-index 0) ≤ 16 = ones-le 16 _ (search rules) in omega arith
-
-pub loop-w-preserved : goal.loop-w-preserved
-unfolding ones_in
-loop-w-preserved c =
-    let o : ones (get_or c.args.self.now.words c.loop-w.w-index 0) ≤ 16 = ones-le 16 _ (search rules) in
-    let m = sum_by_more (λ w. ones w) c.args.self.now.words c.loop-w.w-index 0 (search rules) in
-    (omega arith, omega arith)
+pub sum-requires-clause-fits : goal.sum-requires-clause-fits
+sum-requires-clause-fits c =
+    fits_from_length _ _ 609 _ (at_most_from_yields_List (YieldsList-from_slice c.args.self.now.words cc) (grind arith)) c.map.ensures.closure (omega arith) (λ x r q k. search (rules, tests))
 
 pub returns : goal.returns
-returns c = c.loop-w.invariant.1 ∙ ap ones_in (take_all c.loop-w.w-index c.args.self.now.words (search rules))
+unfolding ones_in
+returns c = search (rules, chains)

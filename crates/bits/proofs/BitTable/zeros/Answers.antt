@@ -1,21 +1,18 @@
-use Rattle.std.proofs.Common.{◌-◌, get_or, refl, ap, ◌∙◌, arith, rules}
+use Rattle.std.proofs.Common.{rules, arith, ◌≡◌, ◌∙◌, ◌-◌}
+use borrow.Author.Tests.{tests}
 use lib.Count.{ones}
-use Rattle.std.proofs.lemmas.List.{take_all}
-use Rattle.std.proofs.lemmas.List.Sums.{sum_by_more}
-use Rattle.bits.specs.Bits.{zeros_in}
-use Rattle.bits.proofs.Tables.{zeros_of}
+use Rattle.std.specs.List.{sum_by}
+use Rattle.std.proofs.iter.runs.Made.{chains}
+use Rattle.std.proofs.lemmas.Iterator.{YieldsList-from_slice}
+use Rattle.std.proofs.lemmas.Iterator.Adapters.{fits_from_length, at_most_from_yields_List}
+use Rattle.bits.proofs.Tables.{zeros_are}
 use Rattle.bits.proofs.BitTable.zeros.Goals as goal
 
-pub loop-w-init : goal.loop-w-init
-unfolding zeros_in
-loop-w-init c = (omega arith, refl)
-
-pub loop-w-preserved : goal.loop-w-preserved
-unfolding zeros_in
-loop-w-preserved c =
-    let m = sum_by_more (λ w. 16 - ones w) c.args.self.now.words c.loop-w.w-index 0 (search rules) in
-    let z = zeros_of (get_or c.args.self.now.words c.loop-w.w-index 0) (search rules) in
-    (omega arith, omega arith)
+pub sum-requires-clause-fits : goal.sum-requires-clause-fits
+sum-requires-clause-fits c =
+    fits_from_length _ _ 609 _ (at_most_from_yields_List (YieldsList-from_slice c.args.self.now.words cc) (grind arith)) c.map.ensures.closure (omega arith) (λ x r q k. search (rules, tests))
 
 pub returns : goal.returns
-returns c = c.loop-w.invariant.1 ∙ ap zeros_in (take_all c.loop-w.w-index c.args.self.now.words (search rules))
+returns c =
+    let s : c.sum.result ≡ sum_by (λ w. ones (65535 - w)) c.args.self.now.words = search (rules, chains) in
+    s ∙ zeros_are c.args.self.now.words (λ i h. search rules)
