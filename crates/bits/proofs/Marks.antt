@@ -58,32 +58,22 @@ lowered w j o =
     (omega arith, omega arith)
 
 pub one_there : (w j : ℕ) → with_one w j / 2 ^ j % 2 ≡ 1
-one_there w j = elim (bit_cases w j) [
-  | inl z ↦ ap (λ (x : ℕ). x / 2 ^ j % 2) (one_new w j z) ∙ raised w j z
-  | inr o ↦ ap (λ (x : ℕ). x / 2 ^ j % 2) (one_old w j o) ∙ o
-]
+one_there w j = elim (bit_cases w j) [ inl z ↦ rw (one_new w j z) (raised w j z) | inr o ↦ rw (one_old w j o) o ]
 
 pub one_elsewhere : (w j i : ℕ) → (i ≡ j → ⊥) → with_one w j / 2 ^ i % 2 ≡ w / 2 ^ i % 2
-one_elsewhere w j i n = elim (bit_cases w j) [
-  | inl z ↦ ap (λ (x : ℕ). x / 2 ^ i % 2) (one_new w j z) ∙ others w j i n z
-  | inr o ↦ ap (λ (x : ℕ). x / 2 ^ i % 2) (one_old w j o)
-]
+one_elsewhere w j i n = elim (bit_cases w j) [ inl z ↦ rw (one_new w j z) (others w j i n z) | inr o ↦ rw (one_old w j o) refl ]
 
 pub nought_there : (w j : ℕ) → with_nought w j / 2 ^ j % 2 ≡ 0
-nought_there w j = elim (bit_cases w j) [
-  | inl z ↦ ap (λ (x : ℕ). x / 2 ^ j % 2) (nought_old w j z) ∙ z
-  | inr o ↦ ap (λ (x : ℕ). x / 2 ^ j % 2) (nought_new w j o) ∙ (lowered w j o).1
-]
+nought_there w j = elim (bit_cases w j) [ inl z ↦ rw (nought_old w j z) z | inr o ↦ rw (nought_new w j o) ((lowered w j o).1) ]
 
 pub nought_elsewhere : (w j i : ℕ) → (i ≡ j → ⊥) → with_nought w j / 2 ^ i % 2 ≡ w / 2 ^ i % 2
 nought_elsewhere w j i n = elim (bit_cases w j) [
-  | inl z ↦ ap (λ (x : ℕ). x / 2 ^ i % 2) (nought_old w j z)
+  | inl z ↦ rw (nought_old w j z) refl
   | inr o ↦
       let l = lowered w j o in
       let b : w - 2 ^ j + 2 ^ j ≡ w = omega arith in
-      ap (λ (x : ℕ). x / 2 ^ i % 2) (nought_new w j o) ∙
-      sym (others (w - 2 ^ j) j i n l.1) ∙
-      ap (λ (x : ℕ). x / 2 ^ i % 2) b
+      let e = others (w - 2 ^ j) j i n l.1 in
+      rw (nought_new w j o) (sym (rw b at e))
 ]
 
 -- One bit of a word taken out by a mask.
@@ -133,6 +123,11 @@ pub mask_of : (k : ℕ) → k < 16 → 32768 / 2 ^ k ≡ 2 ^ (15 - k)
 mask_of k h =
     let e : 15 ≡ (15 - k) + k = omega arith in
     ap (λ (x : ℕ). 2 ^ x / 2 ^ k) e ∙ ap (λ (x : ℕ). x / 2 ^ k) (pow-add 2 (15 - k) k) ∙ shl-shr (2 ^ (15 - k)) k
+
+-- What `take` and `free` need.
+pub ruleset made_one = (mask_of, or_one)
+
+pub ruleset made_nought = (mask_of, and_not_one)
 
 -- A word keeps its 16 bits.
 pub one_fits : (w j : ℕ) → j < 16 → w < 2 ^ 16 → with_one w j < 2 ^ 16

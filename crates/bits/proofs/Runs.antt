@@ -108,3 +108,6 @@ filled w k hw hk =
     let cw : 65535 - w ≡ ((2 ^ k - 1) - hi) * 2 ^ (16 - k) + ((2 ^ (16 - k) - 1) - lo) = omega arith in
     let lw : (65535 - w) % 2 ^ (16 - k) ≡ (2 ^ (16 - k) - 1) - lo = ap (λ (x : ℕ). x % 2 ^ (16 - k)) cw ∙ low ((2 ^ k - 1) - hi) (16 - k) (omega arith) in
     omega arith
+
+-- What `ones_from` needs.
+pub ruleset runs = (run_of, filled)

@@ -52,7 +52,7 @@ spread ws a b None f = λ q l u. f q l (omega arith)
 spread ws a b (Some p) f = record { from = f.from; below = omega (arith, f.from, f.below); free = f.free; before = f.before }
 
 -- What is first free in a range is what the definition gives.
-pub first_is : (ws : List ℕ) (a b : ℕ) (r : Option ℕ) → First ws a b r → r ≡ first_free ws a (b - a)
+first_is : (ws : List ℕ) (a b : ℕ) (r : Option ℕ) → First ws a b r → r ≡ first_free ws a (b - a)
 first_is ws a b r f = one_first ws a (a + (b - a)) r (first_free ws a (b - a)) (spread ws a b r f) (first_free_is ws a (b - a))
 
 -- The ones of a word from page p on: those pages are not free, and the next is, if it is in that word.
@@ -84,13 +84,20 @@ unfolding round_free
 round_from ws start n h o =
     both ws start n (first_free ws start (n - start)) (first_free ws 1 (start - 1)) h o (first_free_is ws start (n - start)) (first_free_is ws 1 (start - 1))
 
+-- Where no page of a range is free.
+pub none_is : (ws : List ℕ) (a b p : ℕ) → b ≤ p → AllTaken ws a p → None ≡ first_free ws a (b - a)
+none_is ws a b p l f = first_is ws a b None (λ q h u. f q h (omega arith))
+
 -- A page where a search stops, which may lie past the range.
 pub stop_is : (ws : List ℕ) (a b q : ℕ) → a ≤ q → page_bit ws q ≡ 0 → AllTaken ws a q → option_map {T = PageAddress} (λ x. x.page) (then_some (ltb q b) (record { page = q })) ≡ first_free ws a (b - a)
 stop_is ws a b q l z f =
     elim (cases_Bool (ltb q b)) [
       | inl e ↦ ap (λ t. option_map (λ x. x.page) (then_some {T = PageAddress} t (record { page = q }))) e ∙ first_is ws a b (Some q) (record { from = l; below = ltb-true q b e; free = z; before = f })
-      | inr e ↦ ap (λ t. option_map (λ x. x.page) (then_some {T = PageAddress} t (record { page = q }))) e ∙ first_is ws a b None (λ p h u. f p h (omega (arith, ltb-false q b e)))
+      | inr e ↦ ap (λ t. option_map (λ x. x.page) (then_some {T = PageAddress} t (record { page = q }))) e ∙ none_is ws a b q (ltb-false q b e) f
     ]
+
+-- How a search of a range ends.
+pub ruleset ends = (passed, stopped, stop_is, none_is)
 
 -- The first range, or else the second.
 pub round_is : (ws : List ℕ) (start n : ℕ) (Q : Type 0) (r s : Option PageAddress) → option_map (λ a. a.page) r ≡ first_free ws start (n - start)

@@ -33,6 +33,7 @@ impl BitTable {
     }
 
     // Marks the page as not free.
+    #[tactic(auto, using(crate::proofs::Marks::made_one), unfolding(crate::specs::Bits::taken, crate::specs::Bits::page_bit))]
     pub fn take(&mut self, at: PageAddress)
         ensures { self.new.words ≡ (if nat_lt at.page 9744 then taken self.old.words at.page else self.old.words) }
     {
@@ -42,6 +43,7 @@ impl BitTable {
     }
 
     // Marks the page as free.
+    #[tactic(auto, using(crate::proofs::Marks::made_nought), unfolding(crate::specs::Bits::freed, crate::specs::Bits::page_bit))]
     pub fn free(&mut self, at: PageAddress)
         ensures { self.new.words ≡ (if nat_lt at.page 9744 then freed self.old.words at.page else self.old.words) }
     {
@@ -61,6 +63,7 @@ impl BitTable {
     }
 
     // The first free page from a up to b - 1.
+    #[tactic(auto, using(crate::proofs::Searches::ends))]
     fn first_free(&self, a: u16, b: u16) -> Option<PageAddress>
         requires { b ≤ 9744 }
         ensures { option_map (λ a. a.page) result ≡ first_free self.now.words a (b - a) }
@@ -79,6 +82,7 @@ impl BitTable {
     }
 
     // How many bits are 1.
+    #[tactic(auto, unfolding(crate::specs::Bits::ones_in))]
     pub fn ones(&self) -> u32
         ensures { result ≡ ones_in self.now.words }
     {
@@ -105,6 +109,7 @@ fn start_page(start: u16, pages: u16) -> u16
 }
 
 // Where the ones of a word that begin at bit k end; the bits before k are taken for ones.
+#[tactic(auto, using(crate::proofs::Runs::runs))]
 fn ones_from(w: u16, k: u16) -> u16
     requires { k < 16 }
     ensures { Run w k result }

@@ -30,6 +30,8 @@ slot_missing (t ∷ ss) p e =
       | inr f ↦ grind (arith, common_steps, e, f, slot_missing ss p)
     ]
 
+pub ruleset slot_is = (slot_found, slot_missing)
+
 -- Where a page's slot stands, and the slots with one of that page.
 has_place : (ss : List Slot) (p : ℕ) → has_slot (held_pages ss) p ≡ ltb (place ss p) (length ss)
 unfolding has_slot

@@ -39,12 +39,7 @@ impl<R: Reader> Overlay<R> {
     pub fn into_below(self) -> R
         ensures { result ≡ self.below }
     {
-        let Overlay {
-            below,
-            table: _,
-            on: _,
-        } = self;
-        below
+        self.below
     }
 
     // How many pages have a slot.

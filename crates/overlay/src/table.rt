@@ -38,7 +38,7 @@ impl SlotTable {
     }
 
     // The new label of a page.
-    #[tactic(auto, using(crate::proofs::Keeping::slot_found, crate::proofs::Keeping::slot_missing))]
+    #[tactic(auto, using(crate::proofs::Keeping::slot_is))]
     pub fn label(&self, at: PageAddress) -> Option<Label>
         ensures { result ≡ (slot_of self.now.slots.items at.page).label }
     {
@@ -46,7 +46,7 @@ impl SlotTable {
     }
 
     // The new data of a page.
-    #[tactic(auto, using(crate::proofs::Keeping::slot_found, crate::proofs::Keeping::slot_missing))]
+    #[tactic(auto, using(crate::proofs::Keeping::slot_is))]
     pub fn data(&self, at: PageAddress) -> Option<[u16; 256]>
         ensures { result ≡ (slot_of self.now.slots.items at.page).words }
     {

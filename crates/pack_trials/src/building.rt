@@ -1,3 +1,4 @@
+// The helpers that `trials` has too stand here once more: its own are of its tests, which no crate can import.
 use disk::{FileId, PageAddress};
 use std::alloc::{AllocError, Global};
 use survey::{Record, Totals, Verdict};
@@ -8,22 +9,22 @@ pub fn at(page: u16) -> PageAddress {
     PageAddress { page }
 }
 
-// Puts a word in its place, where there is such a place.
-fn put(words: &mut [u16], i: usize, word: u16) {
+// Puts the new words in their places from i on, where there are such places.
+fn put(words: &mut [u16], i: usize, new: &[u16]) {
     if i < words.len() {
-        words[i] = word;
+        for (place, word) in words[i..].iter_mut().zip(new) {
+            *place = *word;
+        }
     }
 }
 
 pub fn put_label(words: &mut [u16], page: u16, label: [u16; 8]) {
-    for k in 0..8 {
-        put(words, 1 + 8 * page as usize + k, label[k]);
-    }
+    put(words, 1 + 8 * page as usize, &label);
 }
 
 // Puts the mark of a page: 1 for a label that cannot be read, and 2 more for such data.
 pub fn put_mark(words: &mut [u16], pages: u16, page: u16, mark: u16) {
-    put(words, 3 + 264 * pages as usize + page as usize, mark);
+    put(words, 3 + 264 * pages as usize + page as usize, &[mark]);
 }
 
 // The eight words of a page's label in an image.
@@ -39,9 +40,9 @@ pub fn label_words(words: &[u16], page: u16) -> [u16; 8] {
 // The words of a pack of so many pages, all of them free, with data zero.
 pub fn free_pack(heap: Global, pages: u16) -> Result<Vec<u16>, AllocError> {
     let mut words = vec![in heap; 0u16; 3 + 265 * pages as usize]?;
-    put(&mut words, 0, pages);
-    put(&mut words, 1 + 8 * pages as usize, pages);
-    put(&mut words, 2 + 264 * pages as usize, pages);
+    put(&mut words, 0, &[pages]);
+    put(&mut words, 1 + 8 * pages as usize, &[pages]);
+    put(&mut words, 2 + 264 * pages as usize, &[pages]);
     for page in 0..pages {
         put_label(&mut words, page, FREE);
     }

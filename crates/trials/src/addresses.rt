@@ -2,41 +2,26 @@ use crate::building::{at, cylinders};
 use disk::{Cylinders, PageAddress, RealAddress};
 use std::test::Fail;
 
-// A page of a pack, and its real address.
-#[derive(Clone, Copy)]
-struct Case {
-    cylinders: u16,
-    page: u16,
-    real: u16,
-}
-
-fn named(cylinders: u16, page: u16, real: u16) -> Case {
-    Case {
-        cylinders,
-        page,
-        real,
-    }
-}
-
 fn word(word: u16) -> RealAddress {
     RealAddress { word }
 }
 
 #[test]
 fn page_and_real_address_name_each_other(rt: HostRuntime) -> Result<(), Fail> {
+    // how many cylinders the pack has, a page of it, and the page's real address
     let cases = [
-        named(4, 0, 0),
-        named(4, 1, 4096),
-        named(4, 12, 4),
-        named(4, 24, 8),
-        named(4, 95, 45084),
-        named(203, 4871, 46676),
-        named(406, 9743, 48300),
+        (4, 0, 0),
+        (4, 1, 4096),
+        (4, 12, 4),
+        (4, 24, 8),
+        (4, 95, 45084),
+        (203, 4871, 46676),
+        (406, 9743, 48300),
     ];
-    for c in cases {
-        let pack = cylinders(c.cylinders)?;
-        assert_eq!(rt; at(c.page).real(pack), Some(word(c.real)));
-        assert_eq!(rt; word(c.real).page(pack), Some(at(c.page)));
+    for (count, page, real) in cases {
+        let pack = cylinders(count)?;
+        assert_eq!(rt; at(page).real(pack), Some(word(real)));
+        assert_eq!(rt; word(real).page(pack), Some(at(page)));
     }
     Ok(())
 }
@@ -82,10 +67,8 @@ fn packs_of_1_to_406_cylinders(rt: HostRuntime) -> Result<(), Fail> {
 fn every_page_of_one_cylinder_there_and_back(rt: HostRuntime) -> Result<(), Fail> {
     let pack = cylinders(1)?;
     for page in 0..24u16 {
-        match at(page).real(pack) {
-            None => return Err(Fail::new("a page has no real address")),
-            Some(real) => assert_eq!(rt; real.page(pack), Some(at(page))),
-        }
+        let back = at(page).real(pack).and_then(|real| real.page(pack));
+        assert_eq!(rt; back, Some(at(page)));
     }
     Ok(())
 }

@@ -1,67 +1,64 @@
-use disk::{Cylinders, FileId, PageAddress};
+use disk::{Cylinders, FileId, PageAddress, Place, Reason, Refusal};
 use std::alloc::{AllocError, Global};
 use std::test::Fail;
-use survey::{Record, Verdict};
+use survey::{Record, Totals, Verdict};
 
 // How many pages a pack of one cylinder has.
 pub const ONE: u16 = 24;
+
+// The words of the label of a free page.
+const FREE: [u16; 8] = [0, 0, 0, 0, 0, 65535, 65535, 65535];
+
+// The words of a label to write.
+pub const WORDS: [u16; 8] = [1, 2, 3, 4, 5, 6, 7, 8];
 
 pub fn at(page: u16) -> PageAddress {
     PageAddress { page }
 }
 
 pub fn cylinders(count: u16) -> Result<Cylinders, Fail> {
-    match Cylinders::new(count) {
-        Some(c) => Ok(c),
-        None => Err(Fail::new("no pack has so many cylinders")),
-    }
+    Cylinders::new(count).ok_or_else(|| Fail::new("no pack has so many cylinders"))
 }
 
-// Puts a word in its place, where there is such a place.
-pub fn put(words: &mut [u16], i: usize, word: u16) {
+// Puts the new words in their places from i on, where there are such places.
+pub fn put(words: &mut [u16], i: usize, new: &[u16]) {
     if i < words.len() {
-        words[i] = word;
+        for (place, word) in words[i..].iter_mut().zip(new) {
+            *place = *word;
+        }
     }
 }
 
 pub fn put_label(words: &mut [u16], page: u16, label: [u16; 8]) {
-    for k in 0..8 {
-        put(words, 1 + 8 * page as usize + k, label[k]);
-    }
+    put(words, 1 + 8 * page as usize, &label);
 }
 
 // Puts the mark of a page: 1 for a label that cannot be read, and 2 more for such data.
 pub fn put_mark(words: &mut [u16], pages: u16, page: u16, mark: u16) {
-    put(words, 3 + 264 * pages as usize + page as usize, mark);
+    put(words, 3 + 264 * pages as usize + page as usize, &[mark]);
 }
 
 // The data that a page has in a pack of free pages: no two words of a small pack are the same.
 pub fn old_data(page: u16) -> [u16; 256] {
     let mut data = [0; 256];
-    for k in 0..256u16 {
-        data[k as usize] = page.wrapping_mul(256).wrapping_add(k);
+    for (word, k) in data.iter_mut().zip(0..256u16) {
+        *word = page.wrapping_mul(256).wrapping_add(k);
     }
     data
 }
 
 pub fn put_data(words: &mut [u16], pages: u16, page: u16, data: [u16; 256]) {
-    for k in 0..256 {
-        put(
-            words,
-            2 + 8 * pages as usize + 256 * page as usize + k,
-            data[k],
-        );
-    }
+    put(words, 2 + 8 * pages as usize + 256 * page as usize, &data);
 }
 
 // The words of a pack of so many pages, all of them free.
 pub fn free_pack(heap: Global, pages: u16) -> Result<Vec<u16>, AllocError> {
     let mut words = vec![in heap; 0u16; 3 + 265 * pages as usize]?;
-    put(&mut words, 0, pages);
-    put(&mut words, 1 + 8 * pages as usize, pages);
-    put(&mut words, 2 + 264 * pages as usize, pages);
+    put(&mut words, 0, &[pages]);
+    put(&mut words, 1 + 8 * pages as usize, &[pages]);
+    put(&mut words, 2 + 264 * pages as usize, &[pages]);
     for page in 0..pages {
-        put_label(&mut words, page, [0, 0, 0, 0, 0, 65535, 65535, 65535]);
+        put_label(&mut words, page, FREE);
         put_data(&mut words, pages, page, old_data(page));
     }
     Ok(words)
@@ -93,17 +90,16 @@ pub fn full(page: u16, next: u16, number: u16, serial: u16) -> Placed {
 
 // The same with fewer characters.
 pub fn part(page: u16, next: u16, number: u16, serial: u16) -> Placed {
-    Placed {
-        page,
-        label: [link(next), 0, 0, 511, number, 1, 0, serial],
-    }
+    let mut placed = full(page, next, number, serial);
+    placed.label[3] = 511;
+    placed
 }
 
 // A page that is free all the same.
 pub fn blank() -> Placed {
     Placed {
         page: 23,
-        label: [0, 0, 0, 0, 0, 65535, 65535, 65535],
+        label: FREE,
     }
 }
 
@@ -114,6 +110,22 @@ pub fn placed_pack(heap: Global, placed: &[Placed]) -> Result<Vec<u16>, AllocErr
         put_label(&mut words, p.page, p.label);
     }
     Ok(words)
+}
+
+pub fn totals(numbers: [u16; 5]) -> Totals {
+    let [reserved, free, chained, stray, aside] = numbers;
+    Totals {
+        reserved,
+        free,
+        chained,
+        stray,
+        aside,
+    }
+}
+
+// What a drive answers that refuses a write to that page.
+pub fn refused(page: u16) -> Result<(), Refusal> {
+    Err(Refusal::new(Reason::Hardware, Place::Drive, at(page)))
 }
 
 // A record that no survey makes.

@@ -1,13 +1,7 @@
-use crate::building::{ONE, at, free_pack, is_same, put_data, put_label, put_mark};
-use disk::{Drive, Label, Place, Reader, Reason, Refusal};
+use crate::building::{ONE, WORDS, at, free_pack, is_same, put_data, put_label, put_mark, refused};
+use disk::{Drive, Label, Reader};
 use image::ImageDrive;
 use std::test::Fail;
-
-const WORDS: [u16; 8] = [1, 2, 3, 4, 5, 6, 7, 8];
-
-fn refused(page: u16) -> Result<(), Refusal> {
-    Err(Refusal::new(Reason::Hardware, Place::Drive, at(page)))
-}
 
 #[test]
 fn a_label_that_is_written_can_be_read(rt: HostRuntime) -> Result<(), Fail> {

@@ -54,39 +54,24 @@ fn labels_that_may_belong_to_a_file(rt: HostRuntime) {
     assert!(rt; filed(512, 32768).is_file());
 }
 
-// A serial number and its two words.
-#[derive(Clone, Copy)]
-struct Serial {
-    number: u32,
-    serial1: u16,
-    serial2: u16,
-}
-
-fn split(number: u32, serial1: u16, serial2: u16) -> Serial {
-    Serial {
-        number,
-        serial1,
-        serial2,
-    }
-}
-
 #[test]
 fn serial_numbers_and_their_words(rt: HostRuntime) {
+    // a serial number and its two words
     let cases = [
-        split(0, 0, 0),
-        split(1, 0, 1),
-        split(65535, 0, 65535),
-        split(65536, 1, 0),
-        split(1073741823, 16383, 65535),
+        (0, 0, 0),
+        (1, 0, 1),
+        (65535, 0, 65535),
+        (65536, 1, 0),
+        (1073741823, 16383, 65535),
     ];
-    for case in cases {
+    for (number, serial1, serial2) in cases {
         let id = FileId {
             version: 9,
-            serial1: case.serial1,
-            serial2: case.serial2,
+            serial1,
+            serial2,
         };
-        assert_eq!(rt; FileId::numbered(9, case.number), Some(id));
-        assert_eq!(rt; id.serial(), case.number);
+        assert_eq!(rt; FileId::numbered(9, number), Some(id));
+        assert_eq!(rt; id.serial(), number);
         assert!(rt; !id.is_directory() && !id.is_random());
     }
     assert_eq!(rt; FileId::numbered(9, 1073741824), None);

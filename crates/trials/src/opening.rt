@@ -7,19 +7,15 @@ use std::test::Fail;
 
 // How many cylinders the words open to.
 fn opened(words: &[u16]) -> Result<u16, Refusal> {
-    match open_image(words) {
-        Ok(cylinders) => Ok(cylinders.count()),
-        Err(refusal) => Err(refusal),
-    }
+    open_image(words).map(|cylinders| cylinders.count())
 }
 
 fn refused() -> Result<u16, Refusal> {
     Err(Refusal::new(Reason::BadParameter, Place::Image, at(0)))
 }
 
-fn check_refused(rt: &impl Abort, words: &[u16]) -> Result<(), Fail> {
+fn check_refused(rt: &impl Abort, words: &[u16]) {
     assert_eq!(rt; opened(words), refused());
-    Ok(())
 }
 
 #[test]
@@ -48,55 +44,35 @@ fn other_numbers_of_pages_are_refused(rt: HostRuntime) -> Result<(), Fail> {
 
 #[test]
 fn wrong_lengths_are_refused(rt: HostRuntime) -> Result<(), Fail> {
-    check_refused(&rt, &[])?;
-    check_refused(&rt, &[24])?;
+    check_refused(&rt, &[]);
+    check_refused(&rt, &[24]);
     let mut words = free_pack(rt.alloc(), ONE)?;
     words.push(0)?;
-    check_refused(&rt, &words)?;
+    check_refused(&rt, &words);
     assert!(rt; words.pop().is_some());
     assert_eq!(rt; opened(&words), Ok(1));
     assert!(rt; words.pop().is_some());
-    check_refused(&rt, &words)
-}
-
-// A word of a pack of one cylinder, and another word in its place.
-#[derive(Clone, Copy)]
-struct Change {
-    place: usize,
-    word: u16,
+    check_refused(&rt, &words);
+    Ok(())
 }
 
 #[test]
 fn wrong_counts_and_marks_are_refused(rt: HostRuntime) -> Result<(), Fail> {
+    // a place in a pack of one cylinder, and another word for it
     let changes = [
         // the first, the second and the third count
-        Change { place: 0, word: 48 },
-        Change {
-            place: 193,
-            word: 25,
-        },
-        Change {
-            place: 6338,
-            word: 0,
-        },
+        (0, 48),
+        (193, 25),
+        (6338, 0),
         // the marks of the first page and of the last
-        Change {
-            place: 6339,
-            word: 4,
-        },
-        Change {
-            place: 6362,
-            word: 4,
-        },
-        Change {
-            place: 6362,
-            word: 65535,
-        },
+        (6339, 4),
+        (6362, 4),
+        (6362, 65535),
     ];
-    for change in changes {
+    for (place, word) in changes {
         let mut words = free_pack(rt.alloc(), ONE)?;
-        put(&mut words, change.place, change.word);
-        assert_eq!(rt; opened(&words), refused(), "place {}", change.place);
+        put(&mut words, place, &[word]);
+        assert_eq!(rt; opened(&words), refused(), "place {place}");
     }
     Ok(())
 }

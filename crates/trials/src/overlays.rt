@@ -1,15 +1,9 @@
-use crate::building::{at, free_pack, is_same, old_data, put_mark};
-use disk::{Drive, Label, Place, Reader, Reason, Refusal};
+use crate::building::{WORDS, at, free_pack, is_same, old_data, put_mark, refused};
+use disk::{Drive, Label, Reader};
 use image::ImageReader;
 use overlay::Overlay;
 use std::process::Abort;
 use std::test::Fail;
-
-const WORDS: [u16; 8] = [1, 2, 3, 4, 5, 6, 7, 8];
-
-fn refused(page: u16) -> Result<(), Refusal> {
-    Err(Refusal::new(Reason::Hardware, Place::Drive, at(page)))
-}
 
 #[test]
 fn a_new_label_lies_over_old_data(rt: HostRuntime) -> Result<(), Fail> {

@@ -1,10 +1,9 @@
-use crate::building::{at, free_pack, junk};
+use crate::building::{at, free_pack, junk, totals};
 use disk::{Label, Place, Reader, Reason, Refusal};
 use image::ImageReader;
 use overlay::Overlay;
 use pack::Pack;
 use std::test::Fail;
-use survey::Totals;
 
 #[test]
 fn format_makes_a_directory_and_free_pages(rt: HostRuntime) -> Result<(), Fail> {
@@ -17,14 +16,7 @@ fn format_makes_a_directory_and_free_pages(rt: HostRuntime) -> Result<(), Fail> 
     assert_eq!(rt; pack.highest(), 1);
     assert_eq!(rt; (pack.bits_free(), pack.bits_taken()), (45, 9699));
     let mut table = [junk(); 48];
-    let found = Totals {
-        reserved: 1,
-        free: 45,
-        chained: 2,
-        stray: 0,
-        aside: 0,
-    };
-    assert_eq!(rt; pack.survey(&mut table), Ok(found));
+    assert_eq!(rt; pack.survey(&mut table), Ok(totals([1, 45, 2, 0, 0])));
     let mut drive = pack.into_drive();
     let leader = Label::from_words([8192, 0, 0, 512, 0, 1, 32768, 1]);
     assert_eq!(rt; drive.read_label(at(1)), Some(leader));

@@ -32,44 +32,21 @@ fn reads_past_the_last_page(rt: HostRuntime) -> Result<(), Fail> {
     Ok(())
 }
 
-// A mark, and what can be read of a page that has it.
-#[derive(Clone, Copy)]
-struct Case {
-    mark: u16,
-    label: bool,
-    data: bool,
-}
-
 #[test]
 fn a_mark_says_what_cannot_be_read(rt: HostRuntime) -> Result<(), Fail> {
+    // a mark, and whether the label and the data of a page that has it can be read
     let cases = [
-        Case {
-            mark: 0,
-            label: true,
-            data: true,
-        },
-        Case {
-            mark: 1,
-            label: false,
-            data: true,
-        },
-        Case {
-            mark: 2,
-            label: true,
-            data: false,
-        },
-        Case {
-            mark: 3,
-            label: false,
-            data: false,
-        },
+        (0, true, true),
+        (1, false, true),
+        (2, true, false),
+        (3, false, false),
     ];
-    for case in cases {
+    for (mark, label, data) in cases {
         let mut words = free_pack(rt.alloc(), ONE)?;
-        put_mark(&mut words, ONE, 23, case.mark);
+        put_mark(&mut words, ONE, 23, mark);
         let mut reader = ImageReader::new(&words);
-        assert_eq!(rt; reader.read_label(at(23)).is_some(), case.label);
-        assert_eq!(rt; reader.read_data(at(23)).is_some(), case.data);
+        assert_eq!(rt; reader.read_label(at(23)).is_some(), label);
+        assert_eq!(rt; reader.read_data(at(23)).is_some(), data);
         assert_eq!(rt; reader.read_label(at(22)), Some(Label::free()));
         assert_eq!(rt; reader.read_data(at(22)), Some(old_data(22)));
     }

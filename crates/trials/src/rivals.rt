@@ -1,10 +1,10 @@
-use crate::building::{Placed, at, blank, full, junk, placed_pack};
+use crate::building::{Placed, at, blank, full, junk, placed_pack, totals};
 use disk::{Place, Reason, Refusal};
 use image::ImageReader;
 use std::alloc::Global;
 use std::process::Abort;
 use std::test::Fail;
-use survey::{Record, Totals, Verdict, survey};
+use survey::{Record, Verdict, survey};
 
 // The leaders of a pack, and the two that a survey names.
 #[derive(Clone, Copy)]
@@ -24,8 +24,8 @@ fn check_case(rt: &impl Abort, heap: Global, case: Case) -> Result<(), Fail> {
     let answer = survey(&mut ImageReader::new(&words), &mut table);
     let refusal = Refusal::of_two(Reason::Rivals, Place::Pack, at(case.one), at(case.two));
     assert_eq!(rt; answer, Err(refusal));
-    for page in 0..24 {
-        assert_eq!(rt; table[page], Record::bare(Verdict::Reserved));
+    for record in &table[..24] {
+        assert_eq!(rt; *record, Record::bare(Verdict::Reserved));
     }
     assert_eq!(rt; (table[24], table[25]), (junk(), junk()));
     Ok(())
@@ -78,16 +78,9 @@ fn leaders_that_differ_in_one_word_are_no_rivals(rt: HostRuntime) -> Result<(), 
     let placed = [leader(3, 7), version, directory, leader(6, 8), leader(0, 7)];
     let words = placed_pack(rt.alloc(), &placed)?;
     let mut table = [junk(); 24];
-    let totals = Totals {
-        reserved: 1,
-        free: 19,
-        chained: 4,
-        stray: 0,
-        aside: 0,
-    };
     assert_eq!(rt;
         survey(&mut ImageReader::new(&words), &mut table),
-        Ok(totals)
+        Ok(totals([1, 19, 4, 0, 0]))
     );
     Ok(())
 }

@@ -1,10 +1,10 @@
-use crate::building::{ONE, Placed, at, blank, full, junk, part, placed_pack, put_mark};
+use crate::building::{ONE, Placed, at, blank, full, junk, part, placed_pack, put_mark, totals};
 use disk::{Place, Reason, Refusal};
 use image::ImageReader;
 use std::alloc::Global;
 use std::process::Abort;
 use std::test::Fail;
-use survey::{Record, Totals, Verdict, survey};
+use survey::{Record, Verdict, survey};
 
 // What a survey is to tell of a page.
 #[derive(Clone, Copy)]
@@ -17,19 +17,16 @@ struct Told {
 
 fn chained(page: usize, leader: u16, number: u16) -> Told {
     Told {
-        page,
-        verdict: Verdict::Chained,
         leader,
         number,
+        ..bare(page, Verdict::Chained)
     }
 }
 
 fn stray(page: usize, number: u16) -> Told {
     Told {
-        page,
-        verdict: Verdict::Stray,
-        leader: 0,
         number,
+        ..bare(page, Verdict::Stray)
     }
 }
 
@@ -61,29 +58,11 @@ fn pack(placed: [Placed; 3], told: [Told; 3], totals: [u16; 5]) -> Case {
     }
 }
 
-fn totals(numbers: [u16; 5]) -> Totals {
-    let [reserved, free, chained, stray, aside] = numbers;
-    Totals {
-        reserved,
-        free,
-        chained,
-        stray,
-        aside,
-    }
-}
-
 fn check_told(rt: &impl Abort, table: &[Record], told: Told, i: usize) {
-    assert!(rt; told.page < table.len(), "case {i}");
-    let record = table[told.page];
+    let record = table.get(told.page);
     assert_eq!(rt;
-        record.verdict,
-        told.verdict,
-        "case {i}, page {}",
-        told.page
-    );
-    assert_eq!(rt;
-        (record.leader.page, record.number),
-        (told.leader, told.number),
+        record.map(|r| (r.verdict, r.leader.page, r.number)),
+        Some((told.verdict, told.leader, told.number)),
         "case {i}, page {}",
         told.page
     );
@@ -269,23 +248,19 @@ fn a_long_table_keeps_its_rest(rt: HostRuntime) -> Result<(), Fail> {
     let answer = survey(&mut ImageReader::new(&words), &mut table);
     assert_eq!(rt; answer, Ok(totals([1, 21, 2, 0, 0])));
     assert_eq!(rt; table[23], Record::bare(Verdict::Free));
-    for page in 24..30 {
-        assert_eq!(rt; table[page], junk());
+    for record in &table[24..] {
+        assert_eq!(rt; *record, junk());
     }
     Ok(())
 }
 
 // The page that a survey gives a file as its page of that number.
 fn page_of(table: &[Record], leader: u16, number: u16) -> Option<usize> {
-    for (page, record) in table.iter().enumerate() {
-        if record.verdict == Verdict::Chained
+    table.iter().position(|record| {
+        record.verdict == Verdict::Chained
             && record.leader.page == leader
             && record.number == number
-        {
-            return Some(page);
-        }
-    }
-    None
+    })
 }
 
 // A pack with a file of three pages and a stray tells the same wherever they lie.
