@@ -9,16 +9,14 @@ use disk::{Cylinders, Label, PageAddress, Place, Reason, Refusal};
 pub fn shape(words: &[u16]) -> Option<Cylinders>
     ensures { Found (is_shaped words.now) words.now result }
 {
-    if words.len() == 0 {
-        return None;
-    }
-    let n = words[0] as usize;
+    let count = *words.first()?;
+    let n = count as usize;
     if words.len() == 3 + 265 * n
-        && words[1 + 8 * n] == words[0]
-        && words[2 + 264 * n] == words[0]
-        && words[0] % 24 == 0
+        && words[1 + 8 * n] == count
+        && words[2 + 264 * n] == count
+        && count % 24 == 0
     {
-        Cylinders::new(words[0] / 24)
+        Cylinders::new(count / 24)
     } else {
         None
     }
@@ -90,6 +88,9 @@ pub fn stored_mark(words: &[u16], page: u16) -> Option<u16>
     let at = places_of(words, page)?;
     Some(words[at.mark])
 }
+
+// A label and data differ in their bit of the mark, their place and their type: reads and stores of
+// both in one would take all three and be longer.
 
 // The label of a page in words of that shape, where its mark says that it can be read.
 pub fn stored_label(words: &[u16], page: u16) -> Option<Label>
