@@ -1,6 +1,7 @@
 -- Words and their bytes.
-use Rattle.std.proofs.Common.{◌≡◌, ℕ, zero, suc, ◌+◌, ◌*◌, ◌/◌, ◌%◌, ◌<◌, List, [], ◌∷◌, ◌++◌, length, get_or, take, drop, set, sym, refl, ap, ◌∙◌, arith}
-use Rattle.std.proofs.lemmas.List.{append_assoc, set_at, length-take-le, take_more, drop_more, take_all}
+use Rattle.std.proofs.Common.{◌≡◌, ℕ, zero, suc, ◌+◌, ◌*◌, ◌/◌, ◌%◌, ◌<◌, ◌≤◌, List, [], ◌∷◌, ◌++◌, length, get_or, take, drop, set, sym, refl, ap, ◌∙◌, add-zero, arith}
+use Rattle.std.proofs.Math.Seq.{drop-append_seam}
+use Rattle.std.proofs.lemmas.List.{append_assoc, set_at, length-take-le, take_more, drop_more, take_all, drop-drop, get_or-drop, get_or_append_left, length-drop, length-append}
 use Rattle.image.specs.Bytes.{words_of_bytes, bytes_of_words}
 
 length_words : (bs : List ℕ) → length (words_of_bytes bs) ≡ length bs / 2
@@ -42,16 +43,26 @@ fill new old now i e h k =
     ∙ (set_at (take i new) (get_or old i 0) (drop (i + 1) old) y i (length-take-le i new (omega arith))
     ∙ (sym (append_assoc (take i new) (y ∷ []) (drop (i + 1) old)) ∙ ap (λ z. z ++ drop (i + 1) old) (sym (take_more new i 0 h))))
 
-pub word_more : (bs old now : List ℕ) (i : ℕ) → now ≡ take i (words_of_bytes bs) ++ drop i old → 2 * i + 1 < length bs → i < length old → set now i (256 * get_or bs (2 * i) 0 + get_or bs (2 * i + 1) 0) ≡ take (i + 1) (words_of_bytes bs) ++ drop (i + 1) old
-word_more bs old now i e h k =
-    ap (λ y. set now i y) (sym (word_at bs i h)) ∙ fill (words_of_bytes bs) old now i e (omega (arith, length_words bs)) k
+-- One more pair of the bytes, which stand in front of those that are left.
+pub pair_next : (bs : List ℕ) (i : ℕ) (pair rest : List ℕ) → drop (2 * i) bs ≡ pair ++ rest → length pair ≡ 2 → (rest ≡ drop (2 * (i + 1)) bs) × (2 * (i + 1) ≤ length bs)
+pair_next bs i pair rest e h =
+    let t : 2 * (i + 1) ≡ 2 * i + 2 = omega arith in
+    let r : drop 2 (pair ++ rest) ≡ rest = ap (λ (k : ℕ). drop k (pair ++ rest)) (sym h) ∙ drop-append_seam pair rest in
+    (sym r ∙ (ap (drop 2) (sym e) ∙ (drop-drop 2 (2 * i) bs ∙ ap (λ (k : ℕ). drop k bs) (sym t))), omega (arith, ap length e, length-drop (2 * i) bs, length-append pair rest))
 
-pub bytes_more : (ws old now : List ℕ) (i : ℕ) → now ≡ take (2 * i) (bytes_of_words ws) ++ drop (2 * i) old → i < length ws → 2 * i + 1 < length old → set (set now (2 * i) (get_or ws i 0 / 256)) (2 * i + 1) (get_or ws i 0 % 256) ≡ take (2 * (i + 1)) (bytes_of_words ws) ++ drop (2 * (i + 1)) old
-bytes_more ws old now i e h k =
+pub word_more : (bs old now : List ℕ) (i x : ℕ) (pair rest : List ℕ) → drop (2 * i) bs ≡ pair ++ rest → length pair ≡ 2 → x ≡ get_or pair 0 0 * 256 + get_or pair 1 0 → now ≡ take i (words_of_bytes bs) ++ drop i old → i < length old → set now i x ≡ take (i + 1) (words_of_bytes bs) ++ drop (i + 1) old
+word_more bs old now i x pair rest p l v e k =
+    let h = (pair_next bs i pair rest p l).1 in
+    let high : get_or bs (2 * i) 0 ≡ get_or pair 0 0 = ap (λ (j : ℕ). get_or bs j 0) (sym (add-zero (2 * i))) ∙ (sym (get_or-drop (2 * i) bs 0 0) ∙ (ap (λ (xs : List ℕ). get_or xs 0 0) p ∙ get_or_append_left pair rest 0 0 (omega arith))) in
+    let low : get_or bs (2 * i + 1) 0 ≡ get_or pair 1 0 = sym (get_or-drop (2 * i) bs 1 0) ∙ (ap (λ (xs : List ℕ). get_or xs 1 0) p ∙ get_or_append_left pair rest 0 1 (omega arith)) in
+    ap (λ y. set now i y) (omega (arith, word_at bs i (omega arith))) ∙ fill (words_of_bytes bs) old now i e (omega (arith, length_words bs)) k
+
+pub bytes_more : (ws old now : List ℕ) (i high low : ℕ) → high ≡ get_or ws i 0 / 256 → low ≡ get_or ws i 0 % 256 → now ≡ take (2 * i) (bytes_of_words ws) ++ drop (2 * i) old → i < length ws → 2 * i + 1 < length old → set (set now (2 * i) high) (2 * i + 1) low ≡ take (2 * (i + 1)) (bytes_of_words ws) ++ drop (2 * (i + 1)) old
+bytes_more ws old now i high low p q e h k =
     let new = bytes_of_words ws in
-    let next : List ℕ = set now (2 * i) (get_or ws i 0 / 256) in
-    let a : next ≡ take (2 * i + 1) new ++ drop (2 * i + 1) old = ap (λ y. set now (2 * i) y) (sym (high_at ws i)) ∙ fill new old now (2 * i) e (omega (arith, length_bytes ws)) (omega arith) in
-    let b : set next (2 * i + 1) (get_or ws i 0 % 256) ≡ take (2 * i + 1 + 1) new ++ drop (2 * i + 1 + 1) old = ap (λ y. set next (2 * i + 1) y) (sym (low_at ws i)) ∙ fill new old next (2 * i + 1) a (omega (arith, length_bytes ws)) k in
+    let next : List ℕ = set now (2 * i) high in
+    let a : next ≡ take (2 * i + 1) new ++ drop (2 * i + 1) old = ap (λ y. set now (2 * i) y) (p ∙ sym (high_at ws i)) ∙ fill new old now (2 * i) e (omega (arith, length_bytes ws)) (omega arith) in
+    let b : set next (2 * i + 1) low ≡ take (2 * i + 1 + 1) new ++ drop (2 * i + 1 + 1) old = ap (λ y. set next (2 * i + 1) y) (q ∙ sym (low_at ws i)) ∙ fill new old next (2 * i + 1) a (omega (arith, length_bytes ws)) k in
     let t : 2 * i + 1 + 1 ≡ 2 * (i + 1) = omega arith in
     b ∙ ap (λ j. take j new ++ drop j old) t
 

@@ -1,11 +1,14 @@
--- An image by its parts, and what a read finds in it.
-use Rattle.std.proofs.Common.{◌≡◌, ℕ, ◌+◌, ◌*◌, ◌/◌, ◌%◌, ◌<◌, ◌≤◌, Bool, true, false, ◌&&◌, eqb, ltb, leb, List, length, get_or, take, drop, replicate, Some, None, sym, refl, ap, ◌∙◌, inl, inr, arith}
+-- Words of an image's shape by their parts, and what a read finds in them.
+use Rattle.std.proofs.Common.{◌≡◌, ℕ, zero, suc, ◌+◌, ◌-◌, ◌*◌, ◌/◌, ◌%◌, ◌<◌, ◌≤◌, Bool, true, false, ◌&&◌, eqb, ltb, leb, List, [], ◌∷◌, length, get_or, take, drop, replicate, Some, None, Option, MatchOption, sym, refl, ap, ◌∙◌, subst, inl, inr, add-zero, lit<, arith}
 use Rattle.std.proofs.lemmas.List.FromFn.{length-map-range_with_len, get_or-map-range_with_len}
-use Rattle.std.proofs.lemmas.List.{get_or_past, get_or-replicate, length-replicate, at_drop_more}
-use Rattle.std.proofs.lemmas.Bool.{and_parts, and_from, eqb-true, eq-eqb, ne_eqb, leb-true, le-leb, lt-leb, lt-ltb, le-ltb, cases_lt, cond-true, cond-false, and_left, and_right}
-use Rattle.disk.specs.Labels.{label_from}
+use Rattle.std.proofs.lemmas.List.{get_or_past, get_or-replicate, length-replicate, get_or-take, get_or-drop, take_all, length-drop}
+use Rattle.std.proofs.lemmas.Bool.{and_parts, and_from, eqb-true, eq-eqb, ne_eqb, leb-true, le-leb, ltb-false, lt-ltb, le-ltb, cases_lt, cond-true, cond-false, and_left, true≢false}
+use Rattle.disk.specs.declared.cylinders.Cylinders.{Cylinders}
+use Rattle.disk.specs.declared.label.Label.{Label}
+use Rattle.disk.specs.Labels.{label_from, label_of}
 use Rattle.disk.specs.Media.{Page, unreadable, label_at, data_at}
-use Rattle.image.specs.Images.{count, agree, pack_size, is_shaped, marks_fine, is_image, mark, label_in, data_in, page_in, table, pages_in, cylinders_in}
+use Rattle.image.specs.Images.{count, agree, pack_size, is_shaped, marks_fine, is_image, mark, page_in, table, pages_if, cylinders_if, has_page, Found}
+use Rattle.image.specs.Steps.{Placed}
 
 pub record Shape (ws : List ℕ) : Type 0 where
   pub long : length ws ≡ 3 + 265 * count ws
@@ -38,59 +41,49 @@ shaped_from ws s =
     (and_from (leb 1 (count ws / 24)) (leb (count ws / 24) 406) (le-leb 1 (count ws / 24) s.some) (le-leb (count ws / 24) 406 s.few))
 
 -- An image has that shape, and marks to 3.
-pub image_shape : (ws : List ℕ) → is_image ws ≡ true → Shape ws
+pub image_shaped : (ws : List ℕ) → is_image ws ≡ true → is_shaped ws ≡ true
 unfolding is_image
-image_shape ws h = shape_of ws (and_parts (is_shaped ws) (marks_fine (drop (3 + 264 * count ws) ws)) h).0
+image_shaped ws h = (and_parts (is_shaped ws) (marks_fine (drop (3 + 264 * count ws) ws)) h).0
 
 pub image_marks : (ws : List ℕ) → is_image ws ≡ true → marks_fine (drop (3 + 264 * count ws) ws) ≡ true
 unfolding is_image
 image_marks ws h = (and_parts (is_shaped ws) (marks_fine (drop (3 + 264 * count ws) ws)) h).1
 
-pub image_from : (ws : List ℕ) → Shape ws → marks_fine (drop (3 + 264 * count ws) ws) ≡ true → is_image ws ≡ true
-unfolding is_image
-image_from ws s m = and_from (is_shaped ws) (marks_fine (drop (3 + 264 * count ws) ws)) (shaped_from ws s) m
-
 pub no_shape : (ws : List ℕ) → is_shaped ws ≡ false → is_image ws ≡ false
 unfolding is_image
 no_shape ws h = and_left (is_shaped ws) (marks_fine (drop (3 + 264 * count ws) ws)) h
 
-pub no_marks : (ws : List ℕ) (n : ℕ) → n ≡ count ws → marks_fine (drop (3 + 264 * n) ws) ≡ false → is_image ws ≡ false
+-- Words of that shape are an image if their marks are fine.
+pub image_by_marks : (ws : List ℕ) → is_shaped ws ≡ true → is_image ws ≡ marks_fine (drop (3 + 264 * count ws) ws)
 unfolding is_image
-no_marks ws n e h = and_right (is_shaped ws) (marks_fine (drop (3 + 264 * count ws) ws)) (ap (λ k. marks_fine (drop (3 + 264 * k) ws)) (sym e) ∙ h)
+image_by_marks ws s = ap (λ b. b && marks_fine (drop (3 + 264 * count ws) ws)) s
 
-pub with_marks : (ws : List ℕ) (n : ℕ) → is_shaped ws ≡ true → n ≡ count ws → marks_fine (drop (3 + 264 * n) ws) ≡ true → is_image ws ≡ true
-unfolding is_image
-with_marks ws n s e h = and_from (is_shaped ws) (marks_fine (drop (3 + 264 * count ws) ws)) s (ap (λ k. marks_fine (drop (3 + 264 * k) ws)) (sym e) ∙ h)
+pub image_is : (ws : List ℕ) (n : ℕ) (b : Bool) → is_shaped ws ≡ true → n ≡ count ws → b ≡ marks_fine (take (length ws - (3 + 264 * n)) (drop (3 + 264 * n) ws)) → is_image ws ≡ b
+image_is ws n b s e m =
+    image_by_marks ws s ∙ (ap (λ k. marks_fine (drop (3 + 264 * k) ws)) (sym e)
+    ∙ (ap marks_fine (sym (take_all (length ws - (3 + 264 * n)) (drop (3 + 264 * n) ws) (omega (arith, length-drop (3 + 264 * n) ws)))) ∙ sym m))
 
--- The check of the marks, one further, and at one that is too large.
-pub fine_more : (ws : List ℕ) (i : ℕ) → i < length ws → get_or ws i 0 ≤ 3 → marks_fine (drop (i + 1) ws) ≡ marks_fine (drop i ws)
-fine_more ws i h l = sym (at_drop_more marks_fine ws i 0 h ∙ ap (λ b. b && marks_fine (drop (i + 1) ws)) (le-leb (get_or ws i 0) 3 l))
+-- The marks of an image are fine one by one.
+fine_at : (ms : List ℕ) (p : ℕ) → marks_fine ms ≡ true → get_or ms p 0 ≤ 3
+fine_at [] p h = omega arith
+fine_at (m ∷ ms) zero h = leb-true m 3 (and_parts (leb m 3) (marks_fine ms) h).0
+fine_at (m ∷ ms) (suc p) h = fine_at ms p (and_parts (leb m 3) (marks_fine ms) h).1
 
-pub fine_stop : (ws : List ℕ) (i : ℕ) → i < length ws → 3 < get_or ws i 0 → marks_fine (drop i ws) ≡ false
-fine_stop ws i h l = at_drop_more marks_fine ws i 0 h ∙ ap (λ b. b && marks_fine (drop (i + 1) ws)) (lt-leb (get_or ws i 0) 3 l)
+pub mark_small : (ws : List ℕ) (p : ℕ) → is_image ws ≡ true → mark ws (count ws) p ≤ 3
+mark_small ws p h = subst (λ (m : ℕ). m ≤ 3) (get_or-drop (3 + 264 * count ws) ws p 0) (fine_at (drop (3 + 264 * count ws) ws) p (image_marks ws h))
 
--- How many cylinders and pages there are.
-pub cylinders_on : (ws : List ℕ) (c : ℕ) → is_image ws ≡ true → 24 * c ≡ count ws → c ≡ cylinders_in ws
-unfolding cylinders_in
-cylinders_on ws c h e = sym (cond-true (is_image ws) (count ws / 24) 1 h ∙ omega arith)
+-- How many cylinders and pages there are in words that are taken for an image or not.
+pub cylinders_on : (b : Bool) (ws : List ℕ) (c : ℕ) → b ≡ true → 24 * c ≡ count ws → c ≡ cylinders_if b ws
+unfolding cylinders_if
+cylinders_on b ws c h e = sym (cond-true b (count ws / 24) 1 h ∙ omega arith)
 
-pub cylinders_off : (ws : List ℕ) → is_image ws ≡ false → cylinders_in ws ≡ 1
-unfolding cylinders_in
-cylinders_off ws h = cond-false (is_image ws) (count ws / 24) 1 h
+pub cylinders_off : (b : Bool) (ws : List ℕ) → b ≡ false → cylinders_if b ws ≡ 1
+unfolding cylinders_if
+cylinders_off b ws h = cond-false b (count ws / 24) 1 h
 
-pub count_is : (ws : List ℕ) → is_image ws ≡ true → 24 * cylinders_in ws ≡ count ws
-unfolding cylinders_in
-count_is ws h = let s = image_shape ws h in ap (λ c. 24 * c) (cond-true (is_image ws) (count ws / 24) 1 h) ∙ omega (arith, s.whole)
-
--- The length of the words, by the size that was found when they were opened.
-pub length_by : (ws : List ℕ) (b : Bool) (c : ℕ) → b ≡ is_image ws → b ≡ true → c ≡ cylinders_in ws → length ws ≡ 3 + 265 * (24 * c)
-length_by ws b c e h d = let s = image_shape ws (sym e ∙ h) in omega (arith, s.long, count_is ws (sym e ∙ h))
-
-pub count_by : (ws : List ℕ) (b : Bool) (c : ℕ) → b ≡ is_image ws → b ≡ true → c ≡ cylinders_in ws → 24 * c ≡ count ws
-count_by ws b c e h d = ap (λ k. 24 * k) d ∙ count_is ws (sym e ∙ h)
-
-pub pages_are : (ws : List ℕ) (c n : ℕ) → is_image ws ≡ true → c ≡ cylinders_in ws → n ≡ 24 * c → n ≡ count ws
-pages_are ws c n h e d = d ∙ (ap (λ k. 24 * k) e ∙ count_is ws h)
+pub count_is : (b : Bool) (ws : List ℕ) → b ≡ true → is_shaped ws ≡ true → 24 * cylinders_if b ws ≡ count ws
+unfolding cylinders_if
+count_is b ws h t = let s = shape_of ws t in ap (λ c. 24 * c) (cond-true b (count ws / 24) 1 h) ∙ omega (arith, s.whole)
 
 pub length_table : (ws : List ℕ) → length (table ws) ≡ count ws
 unfolding table
@@ -100,47 +93,90 @@ pub at_table : (ws : List ℕ) (p : ℕ) (d : Page) → p < count ws → get_or 
 unfolding table
 at_table ws p d h = get_or-map-range_with_len (page_in ws (count ws)) 0 (count ws) p p d h (omega arith)
 
-pub pages_on : (ws : List ℕ) → is_image ws ≡ true → pages_in ws ≡ table ws
-unfolding pages_in
-pages_on ws h = cond-true (is_image ws) (table ws) (replicate 24 unreadable) h
+pub pages_on : (b : Bool) (ws : List ℕ) → b ≡ true → pages_if b ws ≡ table ws
+unfolding pages_if
+pages_on b ws h = cond-true b (table ws) (replicate 24 unreadable) h
 
-pub pages_off : (ws : List ℕ) → is_image ws ≡ false → pages_in ws ≡ replicate 24 unreadable
-unfolding pages_in
-pages_off ws h = cond-false (is_image ws) (table ws) (replicate 24 unreadable) h
+pub pages_off : (b : Bool) (ws : List ℕ) → b ≡ false → pages_if b ws ≡ replicate 24 unreadable
+unfolding pages_if
+pages_off b ws h = cond-false b (table ws) (replicate 24 unreadable) h
 
-pub length_pages : (ws : List ℕ) → length (pages_in ws) ≡ 24 * cylinders_in ws
-length_pages ws = go (is_image ws) refl
+pub length_pages : (b : Bool) (ws : List ℕ) → (b ≡ true → is_shaped ws ≡ true) → length (pages_if b ws) ≡ 24 * cylinders_if b ws
+length_pages true ws t = ap length (pages_on true ws refl) ∙ (length_table ws ∙ sym (count_is true ws refl (t refl)))
+length_pages false ws t = ap length (pages_off false ws refl) ∙ (length-replicate 24 unreadable ∙ ap (λ c. 24 * c) (sym (cylinders_off false ws refl)))
+
+-- What a read finds: nothing in words that are not taken for an image, past the last page, or where the
+-- mark says so.
+shut : (ws : List ℕ) (p : ℕ) → get_or (replicate 24 unreadable) p unreadable ≡ unreadable
+shut ws p = elim (cases_lt p 24) [ inl l ↦ get_or-replicate 24 p unreadable unreadable l | inr l ↦ get_or_past (replicate 24 unreadable) p unreadable (omega (arith, length-replicate 24 unreadable)) ]
+
+pub unread : (b : Bool) (ws : List ℕ) (p : ℕ) → b ≡ false → get_or (pages_if b ws) p unreadable ≡ unreadable
+unread b ws p h = ap (λ ps. get_or ps p unreadable) (pages_off b ws h) ∙ shut ws p
+
+pub no_page : (ws : List ℕ) (p : ℕ) → has_page ws p ≡ false → get_or (pages_if (is_shaped ws) ws) p unreadable ≡ unreadable
+no_page ws p h = go (is_shaped ws) (ltb p (count ws)) refl refl h
   where
-    go : (b : Bool) → is_image ws ≡ b → length (pages_in ws) ≡ 24 * cylinders_in ws
-    go true h = ap length (pages_on ws h) ∙ (length_table ws ∙ sym (count_is ws h))
-    go false h = ap length (pages_off ws h) ∙ (length-replicate 24 unreadable ∙ ap (λ c. 24 * c) (sym (cylinders_off ws h)))
+    go : (b l : Bool) → is_shaped ws ≡ b → ltb p (count ws) ≡ l → (b && l) ≡ false → get_or (pages_if (is_shaped ws) ws) p unreadable ≡ unreadable
+    go false l e f n = unread (is_shaped ws) ws p e
+    go true false e f n = get_or_past (pages_if (is_shaped ws) ws) p unreadable (omega (arith, ltb-false p (count ws) f, length_table ws, ap length (pages_on (is_shaped ws) ws e)))
+    go true true e f n = absurd (true≢false n)
 
--- What a read finds.
-pub far : (ws : List ℕ) (c p : ℕ) → c ≡ cylinders_in ws → 24 * c ≤ p → get_or (pages_in ws) p unreadable ≡ unreadable
-far ws c p e h = get_or_past (pages_in ws) p unreadable (omega (arith, length_pages ws))
+near : (ws : List ℕ) (p : ℕ) → is_shaped ws ≡ true → p < count ws → get_or (pages_if (is_shaped ws) ws) p unreadable ≡ page_in ws (count ws) p
+near ws p h l = ap (λ ps. get_or ps p unreadable) (pages_on (is_shaped ws) ws h) ∙ at_table ws p unreadable l
 
-pub shut : (ws : List ℕ) (b : Bool) (p : ℕ) → b ≡ is_image ws → b ≡ false → get_or (pages_in ws) p unreadable ≡ unreadable
-shut ws b p e h = ap (λ ps. get_or ps p unreadable) (pages_off ws (sym e ∙ h)) ∙ elim (cases_lt p 24) [ inl l ↦ get_or-replicate 24 p unreadable unreadable l | inr l ↦ get_or_past (replicate 24 unreadable) p unreadable (omega (arith, length-replicate 24 unreadable)) ]
+-- The eight words of a label.
+pub label_is : (l : Label) (a b c d e f g h : ℕ) → a ≡ l.next.word → b ≡ l.previous.word → c ≡ l.blank → d ≡ l.characters → e ≡ l.number → f ≡ l.version → g ≡ l.serial1 → h ≡ l.serial2 → record { next = record { word = a }; previous = record { word = b }; blank = c; characters = d; number = e; version = f; serial1 = g; serial2 = h } ≡ l
+label_is l a b c d e f g h p q r s t u v w = simp (p, q, r, s, t, u, v, w) refl
 
-near : (ws : List ℕ) (n p : ℕ) → is_image ws ≡ true → n ≡ count ws → p < n → get_or (pages_in ws) p unreadable ≡ page_in ws n p
-near ws n p h e l = ap (λ ps. get_or ps p unreadable) (pages_on ws h) ∙ (at_table ws p unreadable (omega arith) ∙ ap (λ k. page_in ws k p) (sym e))
+eight : (ws : List ℕ) (i : ℕ) → label_of (take 8 (drop i ws)) ≡ label_from ws i
+eight ws i = label_is (label_from ws i) _ _ _ _ _ _ _ _ (at 0 (lit< tt) ∙ ap (λ j. get_or ws j 0) (add-zero i)) (at 1 (lit< tt)) (at 2 (lit< tt)) (at 3 (lit< tt)) (at 4 (lit< tt)) (at 5 (lit< tt)) (at 6 (lit< tt)) (at 7 (lit< tt))
+  where
+    at : (k : ℕ) → k < 8 → get_or (take 8 (drop i ws)) k 0 ≡ get_or ws (i + k) 0
+    at k b = get_or-take 8 (drop i ws) k 0 b ∙ get_or-drop i ws k 0
 
-pub label_near : (ws : List ℕ) (n p : ℕ) → is_image ws ≡ true → n ≡ count ws → p < n → label_at (pages_in ws) p ≡ label_in ws n p
+-- What a read of a page that is there finds, by its mark.
+mark_is : (ws : List ℕ) (p a b m : ℕ) → Placed ws p a b m → mark ws (count ws) p ≡ get_or ws m 0
+mark_is ws p a b m k = ap (λ j. get_or ws j 0) (sym k.mark)
+
+pub label_hidden : (ws : List ℕ) (p a b m : ℕ) → Placed ws p a b m → get_or ws m 0 % 2 ≡ 1 → label_at (pages_if (is_shaped ws) ws) p ≡ None
 unfolding page_in
-label_near ws n p h e l = ap (λ x. x.label) (near ws n p h e l)
+label_hidden ws p a b m k h =
+    ap (λ x. x.label) (near ws p k.shaped k.inside)
+    ∙ cond-false (eqb (mark ws (count ws) p % 2) 0) (Some (label_from ws (1 + 8 * p))) None (ne_eqb (mark ws (count ws) p % 2) 0 (λ e. omega (arith, mark_is ws p a b m k)))
 
-pub data_near : (ws : List ℕ) (n p : ℕ) → is_image ws ≡ true → n ≡ count ws → p < n → data_at (pages_in ws) p ≡ data_in ws n p
+pub label_seen : (ws : List ℕ) (p a b m : ℕ) → Placed ws p a b m → (get_or ws m 0 % 2 ≡ 1 → ⊥) → label_at (pages_if (is_shaped ws) ws) p ≡ Some (label_of (take 8 (drop a ws)))
 unfolding page_in
-data_near ws n p h e l = ap (λ x. x.words) (near ws n p h e l)
+label_seen ws p a b m k h =
+    ap (λ x. x.label) (near ws p k.shaped k.inside)
+    ∙ (cond-true (eqb (mark ws (count ws) p % 2) 0) (Some (label_from ws (1 + 8 * p))) None (eq-eqb (mark ws (count ws) p % 2) 0 (omega (arith, mark_is ws p a b m k)))
+    ∙ ap (λ l. Some l) (ap (λ i. label_from ws i) (sym k.label) ∙ sym (eight ws a)))
 
-pub label_hidden : (ws : List ℕ) (n p : ℕ) → mark ws n p % 2 ≡ 1 → label_in ws n p ≡ None
-label_hidden ws n p h = cond-false (eqb (mark ws n p % 2) 0) (Some (label_from ws (1 + 8 * p))) None (ne_eqb (mark ws n p % 2) 0 (λ e. omega arith))
+pub data_hidden : (ws : List ℕ) (p a b m : ℕ) → Placed ws p a b m → 2 ≤ get_or ws m 0 → data_at (pages_if (is_shaped ws) ws) p ≡ None
+unfolding page_in
+data_hidden ws p a b m k h =
+    ap (λ x. x.words) (near ws p k.shaped k.inside)
+    ∙ cond-false (ltb (mark ws (count ws) p) 2) (Some (take 256 (drop (2 + 8 * count ws + 256 * p) ws))) None (le-ltb (mark ws (count ws) p) 2 (omega (arith, mark_is ws p a b m k)))
 
-pub label_seen : (ws : List ℕ) (n p : ℕ) → (mark ws n p % 2 ≡ 1 → ⊥) → label_in ws n p ≡ Some (label_from ws (1 + 8 * p))
-label_seen ws n p h = cond-true (eqb (mark ws n p % 2) 0) (Some (label_from ws (1 + 8 * p))) None (eq-eqb (mark ws n p % 2) 0 (omega arith))
+pub data_seen : (ws : List ℕ) (p a b m : ℕ) → Placed ws p a b m → get_or ws m 0 < 2 → data_at (pages_if (is_shaped ws) ws) p ≡ Some (take 256 (drop b ws))
+unfolding page_in
+data_seen ws p a b m k h =
+    ap (λ x. x.words) (near ws p k.shaped k.inside)
+    ∙ (cond-true (ltb (mark ws (count ws) p) 2) (Some (take 256 (drop (2 + 8 * count ws + 256 * p) ws))) None (lt-ltb (mark ws (count ws) p) 2 (omega (arith, mark_is ws p a b m k)))
+    ∙ ap (λ i. Some (take 256 (drop i ws))) (sym k.words))
 
-pub data_hidden : (ws : List ℕ) (n p : ℕ) → 2 ≤ mark ws n p → data_in ws n p ≡ None
-data_hidden ws n p h = cond-false (ltb (mark ws n p) 2) (Some (take 256 (drop (2 + 8 * n + 256 * p) ws))) None (le-ltb (mark ws n p) 2 h)
+-- What is known by the cylinders that were found.
+pub size_found : (b : Bool) (ws : List ℕ) (o : Option Cylinders) (r : Cylinders) → Found b ws o → MatchOption o (r.count ≡ 1) (λ c. r ≡ c) → r.count ≡ cylinders_if b ws
+size_found b ws None r f e = e ∙ sym (cylinders_off b ws f)
+size_found b ws (Some c) r f e = ap (λ x. x.count) e ∙ cylinders_on b ws c.count f.0 f.1
 
-pub data_seen : (ws : List ℕ) (n p : ℕ) → mark ws n p < 2 → data_in ws n p ≡ Some (take 256 (drop (2 + 8 * n + 256 * p) ws))
-data_seen ws n p h = cond-true (ltb (mark ws n p) 2) (Some (take 256 (drop (2 + 8 * n + 256 * p) ws))) None (lt-ltb (mark ws n p) 2 h)
+pub none_read : (b : Bool) (ws : List ℕ) (o : Option Cylinders) (p : ℕ) → Found b ws o → o ≡ None → get_or (pages_if b ws) p unreadable ≡ unreadable
+none_read b ws None p f e = unread b ws p f
+none_read b ws (Some c) p f e = cc
+
+pub read_is : (b : Bool) (ws : List ℕ) (o : Option Cylinders) (c : Cylinders) → (b ≡ true → is_shaped ws ≡ true) → Found b ws o → o ≡ Some c → pages_if (is_shaped ws) ws ≡ pages_if b ws
+read_is b ws None c s f e = cc
+read_is b ws (Some d) c s f e = ap (λ t. pages_if t ws) (s f.0 ∙ sym f.0)
+
+pub found_same : (b d : Bool) (ws vs : List ℕ) (o : Option Cylinders) → d ≡ b → count vs ≡ count ws → Found b ws o → Found d vs o
+found_same b d ws vs None e n f = e ∙ f
+found_same b d ws vs (Some c) e n f = (e ∙ f.0, f.1 ∙ sym n)

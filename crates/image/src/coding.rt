@@ -1,4 +1,4 @@
-ghost use Rattle.std.specs.Prelude.{◌≡◌, ◌+◌, ◌*◌, ◌/◌, ◌%◌, length};
+ghost use Rattle.std.specs.Prelude.{◌≡◌, ◌%◌, length};
 ghost use Rattle.disk.specs.Refusals.{refusal};
 ghost use Rattle.disk.specs.declared.refusal.Place.TheVariants.{Image};
 ghost use Rattle.image.specs.Bytes.{words_of_bytes, bytes_of_words, words_made, bytes_made, over};
@@ -9,18 +9,6 @@ fn refused(reason: Reason) -> Refusal
     ensures { result ≡ refusal reason Image 0 }
 {
     Refusal::new(reason, Place::Image, PageAddress { page: 0 })
-}
-
-fn join(high: u8, low: u8) -> u16
-    ensures { result ≡ 256 * high + low }
-{
-    256 * high as u16 + low as u16
-}
-
-fn split(word: u16) -> (u8, u8)
-    ensures { (result.0 ≡ word / 256) × (result.1 ≡ word % 256) }
-{
-    ((word / 256) as u8, (word % 256) as u8)
 }
 
 // Puts the bytes into the first words, the high byte of each first, and says how many words that
@@ -37,8 +25,8 @@ pub fn bytes_to_words(bytes: &[u8], words: &mut [u16]) -> Result<usize, Refusal>
     if words.len() < n {
         return Err(refused(Reason::TooSmall));
     }
-    for i in 0..n {
-        words[i] = join(bytes[2 * i], bytes[2 * i + 1]);
+    for (i, pair) in bytes.chunks_exact(2).enumerate() {
+        words[i] = u16::from_be_bytes([pair[0], pair[1]]);
     }
     Ok(n)
 }
@@ -54,8 +42,8 @@ pub fn words_to_bytes(words: &[u16], bytes: &mut [u8]) -> Result<usize, Refusal>
     if bytes.len() / 2 < n {
         return Err(refused(Reason::TooSmall));
     }
-    for i in 0..n {
-        let (high, low) = split(words[i]);
+    for (i, word) in words.iter().enumerate() {
+        let [high, low] = word.to_be_bytes();
         bytes[2 * i] = high;
         bytes[2 * i + 1] = low;
     }

@@ -1,39 +1,32 @@
-ghost use Rattle.std.specs.Prelude.{◌≡◌, ◌+◌, ◌-◌, ◌*◌, ◌%◌, ◌≤◌, true, false, length, take, drop, MatchOption};
-ghost use Rattle.disk.specs.Labels.{label_from};
-ghost use Rattle.disk.specs.Media.{label_at, data_at};
-ghost use Rattle.image.specs.Images.{count, is_shaped, marks_fine, is_image, pages_in, cylinders_in, Opened};
+ghost use Rattle.std.specs.Prelude.{◌≡◌, ◌+◌, ◌*◌, false, MatchOption};
+ghost use Rattle.disk.specs.Media.{label_at, data_at, a_label, a_data};
+ghost use Rattle.image.specs.Images.{is_shaped, marks_fine, is_image, pages_if, has_page, mark_at, stored_if, Found, Opened};
+ghost use Rattle.image.specs.Steps.{Placed};
 
-use disk::{Cylinders, Label, PageAddress, Place, RealAddress, Reason, Refusal};
+use disk::{Cylinders, Label, PageAddress, Place, Reason, Refusal};
 
 // The cylinders, where the length and the three counts agree on a number that a pack has.
-fn shape(words: &[u16]) -> Option<Cylinders>
-    ensures { MatchOption result (is_shaped words.now ≡ false) (λ c. (is_shaped words.now ≡ true) × (24 * c.count ≡ count words.now)) }
+pub fn shape(words: &[u16]) -> Option<Cylinders>
+    ensures { Found (is_shaped words.now) words.now result }
 {
-    if words.len() == 0 {
-        return None;
-    }
-    let n = words[0] as usize;
+    let count = *words.first()?;
+    let n = count as usize;
     if words.len() == 3 + 265 * n
-        && words[1 + 8 * n] == words[0]
-        && words[2 + 264 * n] == words[0]
-        && words[0] % 24 == 0
+        && words[1 + 8 * n] == count
+        && words[2 + 264 * n] == count
+        && count % 24 == 0
     {
-        Cylinders::new(words[0] / 24)
+        Cylinders::new(count / 24)
     } else {
         None
     }
 }
 
-// Whether no word from the place on is above 3.
-fn are_marks_fine(words: &[u16], from: usize) -> bool
-    ensures { result ≡ marks_fine (drop from words.now) }
+// Whether no mark is above 3.
+fn are_marks_fine(marks: &[u16]) -> bool
+    ensures { result ≡ marks_fine marks.now }
 {
-    for i in from..words.len() {
-        if words[i] > 3 {
-            return false;
-        }
-    }
-    true
+    marks.iter().all(|mark| *mark <= 3)
 }
 
 // The cylinders of an image; a refusal for words that are none.
@@ -42,108 +35,105 @@ pub fn open_image(words: &[u16]) -> Result<Cylinders, Refusal>
 {
     if let Some(cylinders) = shape(words) {
         let n = cylinders.pages() as usize;
-        if are_marks_fine(words, 3 + 264 * n) {
+        if are_marks_fine(&words[3 + 264 * n..]) {
             return Ok(cylinders);
         }
     }
     Err(Refusal::new(Reason::BadParameter, Place::Image, PageAddress { page: 0 }))
 }
 
-fn one_cylinder() -> Cylinders
-    ensures { result.count ≡ 1 }
+// The cylinders of an image, if the words are one.
+pub(crate) fn measure(words: &[u16]) -> Option<Cylinders>
+    ensures { Found (is_image words.now) words.now result }
 {
-    Cylinders::new(1).unwrap()
+    open_image(words).ok()
 }
 
-// Whether the words are an image, and how many cylinders are to be read in them.
-pub(crate) fn measure(words: &[u16]) -> (bool, Cylinders)
-    ensures opened { result.0 ≡ is_image words.now }
-    ensures size { result.1.count ≡ cylinders_in words.now }
+// How many cylinders are to be read: one that cannot be read where none are found.
+pub fn cylinders_or_one(found: Option<Cylinders>) -> Cylinders
+    ensures { MatchOption found (result.count ≡ 1) (λ c. result ≡ c) }
 {
-    match open_image(words) {
-        Ok(cylinders) => (true, cylinders),
-        Err(_) => (false, one_cylinder()),
-    }
+    found.unwrap_or(Cylinders::new(1).unwrap())
 }
 
-fn label_from(words: &[u16], i: usize) -> Label
-    requires { i + 8 ≤ length words.now }
-    ensures { result ≡ label_from words.now i }
-{
-    Label {
-        next: RealAddress { word: words[i] },
-        previous: RealAddress { word: words[i + 1] },
-        blank: words[i + 2],
-        characters: words[i + 3],
-        number: words[i + 4],
-        version: words[i + 5],
-        serial1: words[i + 6],
-        serial2: words[i + 7],
-    }
+// Where the parts of a page stand in the words.
+#[derive(Clone, Copy)]
+struct Places {
+    label: usize,
+    words: usize,
+    mark: usize,
 }
 
-fn data_from(words: &[u16], i: usize) -> [u16; 256]
-    requires { i + 256 ≤ length words.now }
-    ensures { result ≡ take 256 (drop i words.now) }
+// None where the words lack the shape of an image or have no such page.
+fn places_of(words: &[u16], page: u16) -> Option<Places>
+    ensures { MatchOption result (has_page words.now page ≡ false) (λ at. Placed words.now page at.label at.words at.mark) }
 {
-    let mut data = [0; 256];
-    data.copy_from_slice(&words[i..i + 256]);
-    data
-}
-
-// A page's mark once its label can be read, and once its data can.
-pub(crate) fn label_mended(mark: u16) -> u16
-    ensures { result ≡ mark - mark % 2 }
-{
-    mark / 2 * 2
-}
-
-pub(crate) fn data_mended(mark: u16) -> u16
-    ensures { result ≡ mark % 2 }
-{
-    mark % 2
-}
-
-// The label of a page, from words that were measured before.
-pub(crate) fn read_label(
-    words: &[u16],
-    opened: bool,
-    cylinders: Cylinders,
-    page: u16,
-) -> Option<Label>
-    requires opened { opened ≡ is_image words.now }
-    requires size { cylinders.count ≡ cylinders_in words.now }
-    ensures { result ≡ label_at (pages_in words.now) page }
-{
-    if !opened || page >= cylinders.pages() {
+    let cylinders = shape(words)?;
+    if page >= cylinders.pages() {
         return None;
     }
     let n = cylinders.pages() as usize;
     let p = page as usize;
-    if words[3 + 264 * n + p] % 2 == 1 {
+    Some(Places {
+        label: 1 + 8 * p,
+        words: 2 + 8 * n + 256 * p,
+        mark: 3 + 264 * n + p,
+    })
+}
+
+// The mark of a page in words of an image's shape, whatever it says.
+pub fn stored_mark(words: &[u16], page: u16) -> Option<u16>
+    ensures { result ≡ mark_at words.now page }
+{
+    let at = places_of(words, page)?;
+    Some(words[at.mark])
+}
+
+// A label and data differ in their bit of the mark, their place and their type: reads and stores of
+// both in one would take all three and be longer.
+
+// The label of a page in words of that shape, where its mark says that it can be read.
+pub fn stored_label(words: &[u16], page: u16) -> Option<Label>
+    ensures { result ≡ label_at (pages_if (is_shaped words.now) words.now) page }
+{
+    let at = places_of(words, page)?;
+    if words[at.mark] % 2 == 1 {
         return None;
     }
-    Some(label_from(words, 1 + 8 * p))
+    let mut eight = [0; 8];
+    eight.copy_from_slice(&words[at.label..at.label + 8]);
+    Some(Label::from_words(eight))
 }
 
 // The data of a page, likewise.
-pub(crate) fn read_data(
-    words: &[u16],
-    opened: bool,
-    cylinders: Cylinders,
-    page: u16,
-) -> Option<[u16; 256]>
-    requires opened { opened ≡ is_image words.now }
-    requires size { cylinders.count ≡ cylinders_in words.now }
-    ensures { result ≡ data_at (pages_in words.now) page }
+pub fn stored_data(words: &[u16], page: u16) -> Option<[u16; 256]>
+    ensures { result ≡ data_at (pages_if (is_shaped words.now) words.now) page }
 {
-    if !opened || page >= cylinders.pages() {
+    let at = places_of(words, page)?;
+    if words[at.mark] >= 2 {
         return None;
     }
-    let n = cylinders.pages() as usize;
-    let p = page as usize;
-    if words[3 + 264 * n + p] >= 2 {
-        return None;
+    let mut data = [0; 256];
+    data.copy_from_slice(&words[at.words..at.words + 256]);
+    Some(data)
+}
+
+// Puts a new label on a page, which can then be read. Words without that page stay as they are.
+pub fn store_label(words: &mut [u16], page: u16, label: Label)
+    ensures { words.new ≡ stored_if words.old page (a_label label) }
+{
+    if let Some(at) = places_of(words, page) {
+        words[at.mark] -= words[at.mark] % 2;
+        words[at.label..at.label + 8].copy_from_slice(&label.to_words());
     }
-    Some(data_from(words, 2 + 8 * n + 256 * p))
+}
+
+// Puts new data on a page, likewise.
+pub fn store_data(words: &mut [u16], page: u16, data: &[u16; 256])
+    ensures { words.new ≡ stored_if words.old page (a_data «data».now) }
+{
+    if let Some(at) = places_of(words, page) {
+        words[at.mark] %= 2;
+        words[at.words..at.words + 256].copy_from_slice(data);
+    }
 }

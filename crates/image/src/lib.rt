@@ -8,5 +8,8 @@ mod reader;
 
 pub use coding::{bytes_to_words, words_to_bytes};
 pub use drive::ImageDrive;
-pub use layout::open_image;
+pub use layout::{
+    cylinders_or_one, open_image, shape, store_data, store_label, stored_data, stored_label,
+    stored_mark,
+};
 pub use reader::ImageReader;

@@ -1,67 +1,40 @@
--- Whether a drive has pages in its words, and which of them take a write.
-use Rattle.std.proofs.Common.{◌≡◌, ℕ, ◌+◌, ◌*◌, ◌≤◌, Bool, true, false, ◌&&◌, leb, List, length, sym, refl, ap, ◌∙◌, arith, Ok, Err, Result, is_ok}
-use Rattle.std.proofs.lemmas.List.{get_or_past}
-use Rattle.std.proofs.lemmas.Bool.{and_parts, and_from, and_left, and_right}
+-- What drives over words have and take, and the write rule for them.
+use Rattle.std.proofs.Common.{◌≡◌, ℕ, Bool, true, false, cond, ◌&&◌, leb, List, Some, None, Ok, Err, Option, Result, MatchOption, is_ok, sym, refl, ap, ◌∙◌, subst}
+use Rattle.std.proofs.lemmas.Bool.{and_parts, and_from, and_left, and_right, leb-true, le-leb, true≢false}
 use Rattle.disk.specs.declared.cylinders.Cylinders.{Cylinders}
 use Rattle.disk.specs.declared.refusal.Refusal.{Refusal}
-use Rattle.image.specs.Images.{count, mark, is_shaped, is_image, image_medium, Opened}
-use Rattle.image_copy.specs.Drives.{pages_if, cylinders_if, has_pages, drive_medium, takes}
-use Rattle.image.proofs.Tables.{shape_of}
-use Rattle.image_copy.proofs.Tables.{image_shaped, mark_fine, count_is, length_pages, pages_same, cylinders_same}
+use Rattle.disk.specs.Refusals.{hardware}
+use Rattle.disk.specs.Media.{Write, Written}
+use Rattle.image.specs.Images.{count, mark, is_shaped, is_image, image_medium, has_page, mark_at, stored_if, Opened}
+use Rattle.image.proofs.Tables.{image_shaped, mark_small, count_is}
+use Rattle.image.proofs.Changes.{Fits}
+use Rattle.image.proofs.Rules.{Kind, rule, let_through, went}
+use Rattle.image_copy.specs.Drives.{has_pages, drive_medium, is_inside, takes, goes_through, stays_on, Exactly}
 
-pub has_from : (opened : Bool) (ws : List ℕ) → opened ≡ true → is_shaped ws ≡ true → has_pages opened ws ≡ true
+pub has_is : (opened : Bool) (ws : List ℕ) → opened ≡ true → has_pages opened ws ≡ is_shaped ws
 unfolding has_pages
-has_from opened ws h s = and_from opened (is_shaped ws) h s
+has_is opened ws h = ap (λ b. b && is_shaped ws) h
 
 pub shut_has : (opened : Bool) (ws : List ℕ) → opened ≡ false → has_pages opened ws ≡ false
 unfolding has_pages
 shut_has opened ws h = and_left opened (is_shaped ws) h
 
-pub bare_has : (opened : Bool) (ws : List ℕ) → is_shaped ws ≡ false → has_pages opened ws ≡ false
-unfolding has_pages
-bare_has opened ws h = and_right opened (is_shaped ws) h
-
 pub has_shape : (opened : Bool) (ws : List ℕ) → has_pages opened ws ≡ true → is_shaped ws ≡ true
 unfolding has_pages
 has_shape opened ws h = (and_parts opened (is_shaped ws) h).1
-
-pub length_drive : (opened : Bool) (ws : List ℕ) → length (pages_if (has_pages opened ws) ws) ≡ 24 * cylinders_if (has_pages opened ws) ws
-length_drive opened ws = length_pages (has_pages opened ws) ws (has_shape opened ws)
 
 -- Words that were an image have the pages of that image.
 pub opened_has : (opened : Bool) (ws : List ℕ) → (opened && is_image ws) ≡ true → has_pages opened ws ≡ is_image ws
 opened_has opened ws h =
     let a = and_parts opened (is_image ws) h in
-    has_from opened ws a.0 (image_shaped ws a.1) ∙ sym a.1
+    has_is opened ws a.0 ∙ (image_shaped ws a.1 ∙ sym a.1)
 
-pub new_has : (ws : List ℕ) → has_pages (is_image ws) ws ≡ is_image ws
+new_has : (ws : List ℕ) → has_pages (is_image ws) ws ≡ is_image ws
 new_has ws = go (is_image ws) refl
   where
     go : (b : Bool) → is_image ws ≡ b → has_pages b ws ≡ b
-    go true h = has_from true ws refl (image_shaped ws h)
+    go true h = has_is true ws refl ∙ image_shaped ws h
     go false h = shut_has false ws refl
-
--- Which pages take a write: none without pages, and past the last page no mark says otherwise.
-pub takes_none : (opened : Bool) (ws : List ℕ) (p : ℕ) → has_pages opened ws ≡ false → takes opened ws p ≡ false
-unfolding takes
-takes_none opened ws p h = and_left (has_pages opened ws) (leb (mark ws (count ws) p) 3) h
-
-pub takes_by_mark : (opened : Bool) (ws : List ℕ) (n p : ℕ) → has_pages opened ws ≡ true → n ≡ count ws → takes opened ws p ≡ leb (mark ws n p) 3
-unfolding takes
-takes_by_mark opened ws n p h e = ap (λ b. b && leb (mark ws (count ws) p) 3) h ∙ ap (λ k. leb (mark ws k p) 3) (sym e)
-
-pub takes_far : (opened : Bool) (ws : List ℕ) (c p : ℕ) → has_pages opened ws ≡ true → c ≡ cylinders_if (has_pages opened ws) ws → 24 * c ≤ p → takes opened ws p ≡ true
-takes_far opened ws c p h e l =
-    let t = has_shape opened ws h in
-    let s = shape_of ws t in
-    takes_by_mark opened ws (count ws) p h refl
-    ∙ ap (λ m. leb m 3) (get_or_past ws (3 + 264 * count ws + p) 0 (omega (arith, s.long, count_is (has_pages opened ws) ws h t)))
-
--- A steady drive takes a write to every page.
-pub steady_takes : (opened : Bool) (ws : List ℕ) (p : ℕ) → (opened && is_image ws) ≡ true → takes opened ws p ≡ true
-steady_takes opened ws p h =
-    let a = and_parts opened (is_image ws) h in
-    takes_by_mark opened ws (count ws) p (has_from opened ws a.0 (image_shaped ws a.1)) refl ∙ mark_fine ws p a.1
 
 -- Whether opening the words succeeds says whether they are an image.
 pub opened_is : (ws : List ℕ) (r : Result Cylinders Refusal) → Opened ws r → is_ok r ≡ is_image ws
@@ -77,4 +50,56 @@ new_medium opened on ws e = ap (λ o. drive_medium o on ws) e ∙ go (new_has ws
     twice false = refl
 
     go : has_pages (is_image ws) ws ≡ is_image ws → (is_image ws && is_image ws) ≡ is_image ws → drive_medium (is_image ws) on ws ≡ image_medium on ws
-    go a b = let p = pages_same ws in let c = cylinders_same ws in simp (a, b, p, c) refl
+    go a b = simp (a, b) refl
+
+-- A steady drive takes a write to every page.
+not_steady : (opened : Bool) (ws : List ℕ) (p : ℕ) → takes opened ws p ≡ false → (opened && is_image ws) ≡ false
+unfolding takes
+not_steady opened ws p h = go (opened && is_image ws) refl
+  where
+    go : (b : Bool) → (opened && is_image ws) ≡ b → b ≡ false
+    go true e =
+        let a = and_parts opened (is_image ws) e in
+        absurd (true≢false (sym (and_from (has_pages opened ws) (leb (mark ws (count ws) p) 3) (opened_has opened ws e ∙ a.1) (le-leb (mark ws (count ws) p) 3 (mark_small ws p a.1))) ∙ h))
+    go false e = refl
+
+-- A write is taken where there is that page with a fine mark, and nowhere by a drive that opened no image.
+by_mark : (o : Option ℕ) (r b : Bool) (m : ℕ) → o ≡ cond b (Some m) None → MatchOption o (r ≡ false) (λ x. r ≡ leb x 3) → r ≡ (b && leb m 3)
+by_mark o r true m e h = subst (λ (x : Option ℕ). MatchOption x (r ≡ false) (λ y. r ≡ leb y 3)) e h
+by_mark o r false m e h = subst (λ (x : Option ℕ). MatchOption x (r ≡ false) (λ y. r ≡ leb y 3)) e h
+
+pub takes_by_mark : (opened : Bool) (ws : List ℕ) (p : ℕ) (o : Option ℕ) (r : Bool) → opened ≡ true → o ≡ mark_at ws p → MatchOption o (r ≡ false) (λ x. r ≡ leb x 3) → r ≡ (is_inside opened ws p && takes opened ws p)
+unfolding takes
+takes_by_mark opened ws p o r h e f = by_mark o r (has_page ws p) (mark ws (count ws) p) e f ∙ go (is_shaped ws) refl
+  where
+    go : (s : Bool) → is_shaped ws ≡ s → (has_page ws p && leb (mark ws (count ws) p) 3) ≡ (is_inside opened ws p && (has_pages opened ws && leb (mark ws (count ws) p) 3))
+    go true s =
+        let t = has_is opened ws h ∙ s in
+        let n = count_is true ws refl s in
+        simp (n, t, s) refl
+    go false s = let t = has_is opened ws h ∙ s in simp (t, s) (sym (and_right _ false refl))
+
+pub takes_none : (opened : Bool) (ws : List ℕ) (p : ℕ) → opened ≡ false → opened ≡ (is_inside opened ws p && takes opened ws p)
+unfolding takes
+takes_none opened ws p h = h ∙ sym (and_right (is_inside opened ws p) _ (and_left (has_pages opened ws) (leb (mark ws (count ws) p) 3) (shut_has opened ws h)))
+
+drive_kind : (opened : Bool) (ws : List ℕ) (p : ℕ) → Kind (has_pages opened) (λ (vs : List ℕ). opened && is_image vs) (takes opened ws p) ws p
+unfolding has_pages takes
+drive_kind opened ws p = record {
+  shaped = λ h. has_shape opened ws h;
+  taken = λ h. (and_parts (has_pages opened ws) (leb (mark ws (count ws) p) 3) h).0;
+  fine = λ h. leb-true (mark ws (count ws) p) 3 (and_parts (has_pages opened ws) (leb (mark ws (count ws) p) 3) h).1;
+  not_steady = λ h. not_steady opened ws p h;
+  same_taken = λ vs a b. ap (λ s. opened && s) a;
+  same_steady = λ vs a b. ap (λ i. opened && i) b;
+}
+
+pub drive_rule : (w : Write) (opened later_opened on : Bool) (ws : List ℕ) (r : Result (Unit {0}) Refusal) (later : Bool) (vs : List ℕ) → Fits w.part → later_opened ≡ opened → Exactly w opened on ws r later vs → Written w (drive_medium opened on ws) r (drive_medium later_opened later vs)
+drive_rule w opened later_opened on ws r later vs f o e =
+    let m = rule (has_pages opened) (λ (vs : List ℕ). opened && is_image vs) w (takes opened ws w.page) on ws r later vs (drive_kind opened ws w.page) f e in
+    subst (λ (b : Bool). Written w (drive_medium opened on ws) r (drive_medium b later vs)) (sym o) m
+
+-- The one result of a write that is let through.
+pub landed : (w : Write) (opened on : Bool) (ws : List ℕ) (r : Result (Unit {0}) Refusal) (u : Unit {0}) (later : Bool) (us vs : List ℕ) → r ≡ cond (goes_through opened on ws w.page) (Ok tt) (Err (hardware w.page)) → r ≡ Ok u → us ≡ ws → later ≡ stays_on opened on ws w.page → vs ≡ stored_if us w.page w.part → Exactly w opened on ws (Ok tt) later vs
+landed w opened on ws r u later us vs a h e s n =
+    went (has_pages opened) (λ (vs : List ℕ). opened && is_image vs) w (takes opened ws w.page) on ws later us vs (drive_kind opened ws w.page) (let_through _ _ r u a h) e s n

@@ -1,4 +1,1 @@
-pub mod Tables
-pub mod Changes
 pub mod Having
-pub mod Rules

@@ -1,11 +1,14 @@
-ghost use Rattle.std.specs.Prelude.{◌≡◌, true};
+ghost use Rattle.std.specs.Prelude.{◌≡◌, true, ◌&&◌, if◌then◌else◌, Ok, Err};
+ghost use Rattle.disk.specs.Refusals.{hardware};
 ghost use Rattle.disk.specs.Media.{label_at, data_at, label_write, data_write, Written, spun_up};
-ghost use Rattle.image.specs.Images.{is_image, pages_in, image_medium};
-ghost use Rattle.image_copy.specs.Drives.{cylinders_if, has_pages, drive_medium, takes, goes_through, stays_on, Exactly};
+ghost use Rattle.image.specs.Images.{is_image, pages_in, image_medium, Found};
+ghost use Rattle.image_copy.specs.Drives.{has_pages, drive_medium, is_inside, takes, goes_through, stays_on, Exactly};
 
-use crate::layout::{measure_again, opens, read_data, read_label, takes};
-use crate::storing::{put_data, put_label};
 use disk::{Cylinders, Drive, Label, PageAddress, Place, Reader, Reason, Refusal};
+use image::{
+    cylinders_or_one, open_image, shape, store_data, store_label, stored_data, stored_label,
+    stored_mark,
+};
 
 // A drive over the words of an image, of plain fields, so that a pack can hold one by value. Over words
 // that are no image it has one cylinder that cannot be read, and turns off at each write to it.
@@ -23,7 +26,7 @@ impl<'a> CopyDrive<'a> {
         ensures on { result.on ≡ true }
         ensures medium { drive_medium result.opened result.on result.words.now ≡ image_medium true words.old }
     {
-        let opened = opens(words);
+        let opened = open_image(words).is_ok();
         CopyDrive {
             words,
             opened,
@@ -36,58 +39,56 @@ impl<'a> CopyDrive<'a> {
         ensures words { result.now ≡ self.entry.words.now }
         ensures pages { (drive_medium self.entry.opened self.entry.on self.entry.words.now).steady ≡ true → pages_in result.now ≡ (drive_medium self.entry.opened self.entry.on self.entry.words.now).pages }
     {
-        self.give_words()
-    }
-
-    fn give_words(self) -> &'a mut [u16]
-        ensures { result.now ≡ self.entry.words.now }
-    {
         let CopyDrive { words, .. } = self;
         words
     }
 
-    // Whether there are pages in the words, and how many cylinders.
-    fn measured(&self) -> (bool, Cylinders)
-        ensures pages { result.0 ≡ has_pages self.now.opened self.now.words.now }
-        ensures size { result.1.count ≡ cylinders_if (has_pages self.now.opened self.now.words.now) self.now.words.now }
+    // The cylinders of the pages in the words, if there are any.
+    fn measured(&self) -> Option<Cylinders>
+        ensures { Found (has_pages self.now.opened self.now.words.now) self.now.words.now result }
     {
-        measure_again(self.words, self.opened)
+        if self.opened { shape(self.words) } else { None }
     }
 
     fn label(&self, page: u16) -> Option<Label>
         ensures { result ≡ label_at (drive_medium self.now.opened self.now.on self.now.words.now).pages page }
     {
-        let (has_pages, cylinders) = self.measured();
-        read_label(self.words, has_pages, cylinders, page)
+        if !self.opened {
+            return None;
+        }
+        stored_label(self.words, page)
     }
 
     fn data_words(&self, page: u16) -> Option<[u16; 256]>
         ensures { result ≡ data_at (drive_medium self.now.opened self.now.on self.now.words.now).pages page }
     {
-        let (has_pages, cylinders) = self.measured();
-        read_data(self.words, has_pages, cylinders, page)
+        if !self.opened {
+            return None;
+        }
+        stored_data(self.words, page)
     }
 
+    // Whether there is that page, with a mark that an image has.
     fn takes(&self, page: u16) -> bool
-        ensures { result ≡ takes self.now.opened self.now.words.now page }
+        ensures { result ≡ (is_inside self.now.opened self.now.words.now page && takes self.now.opened self.now.words.now page) }
     {
-        takes(self.words, self.opened, page)
+        self.opened && stored_mark(self.words, page).is_some_and(|mark| mark <= 3)
     }
 
-    // Whether a write to the page goes through. A page that takes no write turns the drive off.
-    fn admit(&mut self, page: u16) -> bool
-        ensures answer { result ≡ goes_through self.old.opened self.old.on self.old.words.now page }
-        ensures on { self.new.on ≡ stays_on self.old.opened self.old.on self.old.words.now page }
+    // Lets a write to the page go through or refuses it. A page that takes no write turns the drive off.
+    fn admit(&mut self, at: PageAddress) -> Result<(), Refusal>
+        ensures answer { result ≡ (if goes_through self.old.opened self.old.on self.old.words.now at.page then Ok tt else Err (hardware at.page)) }
+        ensures on { self.new.on ≡ stays_on self.old.opened self.old.on self.old.words.now at.page }
         ensures words { self.new.words.now ≡ self.old.words.now }
         ensures opened { self.new.opened ≡ self.old.opened }
     {
-        let (_, cylinders) = self.measured();
-        if !self.on || page >= cylinders.pages() {
-            return false;
+        if self.on && at.page < self.cylinders().pages() {
+            self.on = self.takes(at.page);
+            if self.on {
+                return Ok(());
+            }
         }
-        let takes = self.takes(page);
-        self.on = takes;
-        takes
+        Err(Refusal::new(Reason::Hardware, Place::Drive, at))
     }
 }
 
@@ -95,8 +96,7 @@ impl<'a> Reader for CopyDrive<'a> {
     ghost medium = { λ d. drive_medium d.opened d.on d.words.now };
 
     fn cylinders(&self) -> Cylinders {
-        let (_, cylinders) = self.measured();
-        cylinders
+        cylinders_or_one(self.measured())
     }
 
     fn read_label(&mut self, at: PageAddress) -> Option<Label>
@@ -126,10 +126,8 @@ impl<'a> Drive for CopyDrive<'a> {
         ensures exactly { Exactly (label_write at.page label) self.old.opened self.old.on self.old.words.now result self.new.on self.new.words.now }
         ensures opened { self.new.opened ≡ self.old.opened }
     {
-        if !self.admit(at.page) {
-            return Err(Refusal::new(Reason::Hardware, Place::Drive, at));
-        }
-        put_label(self.words, at.page, label);
+        self.admit(at)?;
+        store_label(self.words, at.page, label);
         Ok(())
     }
 
@@ -138,10 +136,8 @@ impl<'a> Drive for CopyDrive<'a> {
         ensures exactly { Exactly (data_write at.page words.now) self.old.opened self.old.on self.old.words.now result self.new.on self.new.words.now }
         ensures opened { self.new.opened ≡ self.old.opened }
     {
-        if !self.admit(at.page) {
-            return Err(Refusal::new(Reason::Hardware, Place::Drive, at));
-        }
-        put_data(self.words, at.page, words);
+        self.admit(at)?;
+        store_data(self.words, at.page, words);
         Ok(())
     }
 

@@ -2,7 +2,5 @@
 #![tactic(auto)]
 
 mod drive;
-mod layout;
-mod storing;
 
 pub use drive::CopyDrive;

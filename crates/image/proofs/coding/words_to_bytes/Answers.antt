@@ -1,4 +1,4 @@
-use Rattle.std.proofs.Common.{◌+◌, ◌*◌, ◌/◌, get_or, set, ap, ◌∙◌, arith, rules}
+use Rattle.std.proofs.Common.{◌≡◌, ◌/◌, ◌%◌, get_or, ap, ◌∙◌, arith, rules}
 use Rattle.image.proofs.Pairs.{bytes_more, bytes_all, words_back}
 use Rattle.image.proofs.coding.words_to_bytes.Goals as goal
 
@@ -7,11 +7,11 @@ returns-then-bytes-n c = record { answer = search rules; bytes = search rules; i
 
 pub loop-i-preserved : goal.loop-i-preserved
 loop-i-preserved c =
-    let now = c.loop-i.bytes in
+    let ws = c.args.words.now in
     let i = c.loop-i.i in
-    ap (λ b. set (set now (2 * i) b) (2 * i + 1) c.split-high.result.1) c.split-high.ensures.0
-    ∙ (ap (λ b. set (set now (2 * i) (get_or c.args.words.now i 0 / 256)) (2 * i + 1) b) c.split-high.ensures.1
-    ∙ bytes_more c.args.words.now c.args.bytes.now now i c.loop-i.invariant (omega arith) (omega arith))
+    let high : get_or c.to_be_bytes.result 0 0 ≡ get_or ws i 0 / 256 = ap (λ b. get_or b 0 0) c.to_be_bytes.ensures ∙ omega (arith, c.type_inv.words i) in
+    let low : get_or c.to_be_bytes.result 1 0 ≡ get_or ws i 0 % 256 = ap (λ b. get_or b 1 0) c.to_be_bytes.ensures in
+    bytes_more ws c.args.bytes.now c.loop-i.bytes i _ _ high low c.loop-i.invariant (omega arith) (omega arith)
 
 pub returns : goal.returns
 returns c =

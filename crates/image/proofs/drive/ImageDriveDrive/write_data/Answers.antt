@@ -1,23 +1,29 @@
-use Rattle.std.proofs.Common.{sym, ◌∙◌}
+use Rattle.std.proofs.Common.{◌≡◌, length, rules}
 use Rattle.disk.specs.Media.{data_write}
-use Rattle.image.proofs.Rules.{refused, let_through, went, exactly_refused, exactly_went}
+use Rattle.image.proofs.Rules.{image_rule, landed}
 use Rattle.image.proofs.drive.ImageDriveDrive.write_data.Goals as goal
 
-pub returns-then-not-admit : goal.returns-then-not-admit
-returns-then-not-admit c = record {
-  rule = (c.new.ensures, refused (data_write c.args.at.page c.args.words.now) c.args.self.now.on c.admit.new.self.on c.args.self.now.words.now c.admit.new.self.words.now (sym c.admit.ensures.answer ∙ c.if-not-admit.true) c.admit.ensures.words c.admit.ensures.on);
-  exactly = exactly_refused (data_write c.args.at.page c.args.words.now) c.args.self.now.on c.admit.new.self.on c.args.self.now.words.now c.admit.new.self.words.now c.new.result (sym c.admit.ensures.answer ∙ c.if-not-admit.true) c.admit.ensures.words c.admit.ensures.on c.new.ensures;
-}
+pub returns-in_err-admit-clause-rule : goal.returns-in_err-admit-clause-rule
+returns-in_err-admit-clause-rule c =
+    let d = c.args.self.now in
+    let e = c.admit.new.self in
+    let full : length c.args.words.now ≡ 256 = search rules in
+    image_rule (data_write c.args.at.page c.args.words.now) d.on d.words.now c.from_residual.result e.on e.words.now full (search rules)
 
-pub put_data-requires : goal.put_data-requires
-put_data-requires c =
-    let l = let_through c.args.self.now.on c.admit.new.self.on c.args.at.page c.args.self.now.words.now c.admit.new.self.words.now (sym c.admit.ensures.answer ∙ c.if-not-admit.false) c.admit.ensures.words c.admit.ensures.on in
-    record { image = l.image; inside = l.below }
+pub invariant_of-self : goal.invariant_of-self
+invariant_of-self c =
+    let d = c.args.self.now in
+    let e = c.admit.new.self in
+    let a = c.admit.ensures in
+    let full : length c.args.words.now ≡ 256 = search rules in
+    let l = landed (data_write c.args.at.page c.args.words.now) d.on d.words.now c.admit.result _ e.on e.words.now c.store_data.new.words e.opened full a.answer c.in_ok-admit.was a.words a.on c.store_data.ensures e.kept in
+    record { kept = l.kept }
 
 pub returns : goal.returns
 returns c =
-    let l = let_through c.args.self.now.on c.admit.new.self.on c.args.at.page c.args.self.now.words.now c.admit.new.self.words.now (sym c.admit.ensures.answer ∙ c.if-not-admit.false) c.admit.ensures.words c.admit.ensures.on in
-    record {
-      rule = went (data_write c.args.at.page c.args.words.now) c.args.self.now.on c.admit.new.self.on c.put_data.new.self.on c.args.self.now.words.now c.admit.new.self.words.now c.put_data.new.self.words.now l c.admit.ensures.words c.put_data.ensures.medium;
-      exactly = exactly_went (data_write c.args.at.page c.args.words.now) c.args.self.now.on c.admit.new.self.on c.put_data.new.self.on c.args.self.now.words.now c.admit.new.self.words.now c.put_data.new.self.words.now (sym c.admit.ensures.answer ∙ c.if-not-admit.false) c.admit.ensures.words c.admit.ensures.on c.put_data.ensures.on c.put_data.ensures.words;
-    }
+    let d = c.args.self.now in
+    let e = c.admit.new.self in
+    let a = c.admit.ensures in
+    let full : length c.args.words.now ≡ 256 = search rules in
+    let l = landed (data_write c.args.at.page c.args.words.now) d.on d.words.now c.admit.result _ e.on e.words.now c.store_data.new.words e.opened full a.answer c.in_ok-admit.was a.words a.on c.store_data.ensures e.kept in
+    record { rule = l.rule; exactly = l.exactly }
