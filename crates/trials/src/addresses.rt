@@ -1,5 +1,5 @@
 use crate::building::{at, cylinders};
-use disk::{Cylinders, PageAddress, RealAddress};
+use disk::{Cylinders, NoSuchSize, PageAddress, RealAddress};
 use std::test::Fail;
 
 fn word(word: u16) -> RealAddress {
@@ -60,6 +60,17 @@ fn packs_of_1_to_406_cylinders(rt: HostRuntime) -> Result<(), Fail> {
     assert_eq!(rt; (smallest.count(), smallest.pages()), (1, 24));
     let largest = cylinders(406)?;
     assert_eq!(rt; (largest.count(), largest.pages()), (406, 9744));
+    Ok(())
+}
+
+#[test]
+fn other_numbers_of_cylinders_are_named(rt: HostRuntime) -> Result<(), Fail> {
+    assert_eq!(rt; Cylinders::try_from(0), Err(NoSuchSize(0)));
+    assert_eq!(rt; Cylinders::try_from(407), Err(NoSuchSize(407)));
+    assert_eq!(rt; Cylinders::try_from(406), Ok(cylinders(406)?));
+    let size = NoSuchSize(407);
+    let printed = format!(in rt.alloc(); "{size}")?;
+    assert_eq!(rt; printed.as_str(), "a pack has 1 to 406 cylinders, not 407");
     Ok(())
 }
 

@@ -23,6 +23,13 @@ fn a_label_is_its_eight_words(rt: HostRuntime) {
 }
 
 #[test]
+fn a_label_and_eight_words_convert(rt: HostRuntime) {
+    let words = [1, 2, 3, 4, 5, 6, 7, 8];
+    assert_eq!(rt; Label::from(words), Label::from_words(words));
+    assert_eq!(rt; <[u16; 8]>::from(Label::from_words(words)), words);
+}
+
+#[test]
 fn the_free_label(rt: HostRuntime) {
     let words = [0, 0, 0, 0, 0, 65535, 65535, 65535];
     assert_eq!(rt; Label::free().to_words(), words);

@@ -14,6 +14,8 @@ mod drives;
 #[cfg(test)]
 mod labels;
 #[cfg(test)]
+mod layouts;
+#[cfg(test)]
 mod opening;
 #[cfg(test)]
 mod overlays;

@@ -92,3 +92,19 @@ fn refusals_of_two_pages_as_printed(rt: HostRuntime) -> Result<(), Fail> {
         "refused 31 pack 1 9743: two leaders claim one file",
     )
 }
+
+#[test]
+fn places_as_printed(rt: HostRuntime) -> Result<(), Fail> {
+    let cases = [
+        (Place::Image, "image"),
+        (Place::Pack, "pack"),
+        (Place::Directory, "directory"),
+        (Place::File, "file"),
+        (Place::Drive, "drive"),
+    ];
+    for (place, name) in cases {
+        let printed = format!(in rt.alloc(); "{place}")?;
+        assert_eq!(rt; printed.as_str(), name);
+    }
+    Ok(())
+}
