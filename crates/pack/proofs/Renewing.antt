@@ -1,7 +1,6 @@
 -- The record of a mended pack, made page after page.
-use Rattle.std.proofs.Common.{◌≡◌, ℕ, zero, suc, ◌+◌, ◌-◌, ◌<◌, ◌≤◌, max, Bool, true, false, cond, List, ◌∷◌, length, get_or, take, drop, filter, ap, ◌∙◌, arith, drop-cons}
+use Rattle.std.proofs.Common.{◌≡◌, ℕ, zero, suc, ◌+◌, max, Bool, true, false, cond, List, [], ◌∷◌, get_or, filter, fold, ap, ◌∙◌, add-one, arith}
 use Rattle.std.specs.List.{range_with_len}
-use Rattle.std.proofs.lemmas.List.{length-take-le, get_or-take, drop_all}
 use Rattle.bits.specs.Bits.{free_all, freed}
 use Rattle.survey.specs.declared.table.Record.{Record}
 use Rattle.survey.specs.Steps.{no_record}
@@ -21,20 +20,16 @@ kept_left : (t : ℕ → Bool) (a k p : ℕ) → a + k ≡ p → t p ≡ false �
 kept_left t a zero p e h = let y : t a ≡ false = ap t (omega arith) ∙ h in rw y
 kept_left t a (suc k) p e h = ap (λ (xs : List ℕ). cond (t a) (a ∷ xs) xs) (kept_left t (a + 1) k p (omega arith) h)
 
-pub freed_more : (ts : List Record) (ws : List ℕ) (p : ℕ) → 0 < p → ends_free (get_or ts p no_record).verdict ≡ true → free_all (freed_in ts (p + 1)) ws ≡ freed (free_all (freed_in ts p) ws) p
-freed_more ts ws p h e =
-    let k : (p + 1) - 1 ≡ suc (p - 1) = omega arith in
-    ap (λ (n : ℕ). free_all (filter (λ q. ends_free (get_or ts q no_record).verdict) (range_with_len 1 n)) ws) k ∙ free_taken (λ q. ends_free (get_or ts q no_record).verdict) ws 1 (p - 1) p (omega arith) e
+pub freed_more : (ts : List Record) (ws : List ℕ) (p : ℕ) → ends_free (get_or ts p no_record).verdict ≡ true → free_all (freed_in ts (p + 1)) ws ≡ freed (free_all (freed_in ts p) ws) p
+freed_more ts ws p e = rw add-one (free_taken (λ q. ends_free (get_or ts q no_record).verdict) ws 0 p p (omega arith) e)
 
-pub freed_left : (ts : List Record) (p : ℕ) → 0 < p → ends_free (get_or ts p no_record).verdict ≡ false → freed_in ts (p + 1) ≡ freed_in ts p
-freed_left ts p h e =
-    let k : (p + 1) - 1 ≡ suc (p - 1) = omega arith in
-    ap (λ (n : ℕ). filter (λ q. ends_free (get_or ts q no_record).verdict) (range_with_len 1 n)) k ∙ kept_left (λ q. ends_free (get_or ts q no_record).verdict) 1 (p - 1) p (omega arith) e
+pub freed_left : (ts : List Record) (p : ℕ) → ends_free (get_or ts p no_record).verdict ≡ false → freed_in ts (p + 1) ≡ freed_in ts p
+freed_left ts p e = rw add-one (kept_left (λ q. ends_free (get_or ts q no_record).verdict) 0 p p (omega arith) e)
 
-pub largest_none : (ts : List Record) (n : ℕ) → n ≤ length ts → largest_serial (drop n (take n ts)) ≡ 0
-largest_none ts n h = ap largest_serial (drop_all n (take n ts) (let l = length-take-le n ts h in omega arith))
+-- The largest serial number, taken from the left.
+largest_from : (n : ℕ) (ts : List Record) → fold (λ a r. max a (serial_if r.verdict r.id)) n ts ≡ max n (largest_serial ts)
+largest_from n [] = omega arith
+largest_from n (t ∷ ts) = largest_from (max n (serial_if t.verdict t.id)) ts ∙ omega arith
 
-pub largest_more : (ts : List Record) (n i : ℕ) → i < n → n ≤ length ts → largest_serial (drop i (take n ts)) ≡ max (serial_if (get_or ts i no_record).verdict (get_or ts i no_record).id) (largest_serial (drop (suc i) (take n ts)))
-largest_more ts n i h k =
-    let l = length-take-le n ts k in
-    ap largest_serial (drop-cons (take n ts) i no_record (omega arith)) ∙ ap (λ (r : Record). max (serial_if r.verdict r.id) (largest_serial (drop (suc i) (take n ts)))) (get_or-take n ts i no_record h)
+pub largest_is : (ts : List Record) → fold (λ a r. max a (serial_if r.verdict r.id)) 0 ts ≡ largest_serial ts
+largest_is ts = largest_from 0 ts ∙ omega arith
