@@ -1,9 +1,8 @@
 -- What a survey has found, and the record that is made of it.
-use Rattle.std.proofs.Common.{◌≡◌, ℕ, zero, suc, ◌+◌, ◌-◌, ◌<◌, ◌≤◌, Bool, true, false, cond, ltb, List, [], ◌∷◌, ◌++◌, length, get_or, take, drop, replicate, Ok, Err, filter, Result, sym, refl, ap, ◌∙◌, ⊎_elim, arith}
+use Rattle.std.proofs.Common.{◌≡◌, ℕ, zero, suc, ◌+◌, ◌-◌, ◌<◌, ◌≤◌, Bool, true, false, cond, ltb, List, ◌∷◌, ◌++◌, length, get_or, take, drop, replicate, Ok, Err, filter, sym, refl, ap, ◌∙◌, arith}
 use Rattle.std.specs.List.{range_with_len}
-use Rattle.std.proofs.lemmas.Bool.{le-ltb, lt-ltb, cases_lt}
-use Rattle.std.proofs.lemmas.List.{get_or_append_left, take-append-le, take_all}
-use Rattle.disk.specs.declared.refusal.Refusal.{Refusal}
+use Rattle.std.proofs.lemmas.Bool.{le-ltb, ltb-false}
+use Rattle.std.proofs.lemmas.List.{get_or_append_left, take-append-le, take_all, drop_at}
 use Rattle.disk.specs.declared.refusal.Reason.TheVariants.{TooSmall, Rivals}
 use Rattle.disk.specs.declared.refusal.Place.TheVariants.{Pack}
 use Rattle.disk.specs.Refusals.{refusal, refusal_of_two}
@@ -15,14 +14,10 @@ use Rattle.survey.specs.declared.table.Totals.{Totals}
 use Rattle.survey.specs.Chains.{Naming, rivalled, rival_of}
 use Rattle.survey.specs.Verdicts.{record_of, table_of, totals, found, cleared, survey_answer, survey_table}
 use Rattle.survey.specs.Steps.{no_record}
-use Rattle.survey.proofs.Following.{not_true}
 use Rattle.survey.proofs.Finding.{length_table, at_table}
 use Rattle.survey.proofs.Counting.{cleared_is}
 use Rattle.ledger.specs.Mends.{ends_free, largest_serial, pages_freed, mended_record}
 use Rattle.pack.specs.Linking.{Surveyed, freed_in}
-
-never_one : {X : Type 0} (r : Result Totals Refusal) (a : Totals) (e : Refusal) → r ≡ Ok a → r ≡ Err e → X
-never_one r a e h k = let z : ◌≡◌ {A = ℕ} 0 1 = cc in absurd (omega arith)
 
 -- A survey that was answered has found no rivals.
 pub record Answered (name : Naming) (ps : List Page) (a : Totals) : Type 0 where
@@ -33,19 +28,12 @@ pub answered : (name : Naming) (ps : List Page) (room : ℕ) (a : Totals) → le
 answered name ps room a h e = go (ltb 0 (rivalled ps)) refl (e ∙ ap (λ (b : Bool). cond b (Err (refusal TooSmall Pack 0)) (found name ps (rivalled ps))) (le-ltb room (length ps) h))
   where
     go : (b : Bool) → ltb 0 (rivalled ps) ≡ b → Ok a ≡ cond b (Err (refusal_of_two Rivals Pack (rivalled ps) (rival_of ps (rivalled ps)))) (Ok (totals (table_of name ps))) → Answered name ps a
-    go true k f = never_one (Ok a) a (refusal_of_two Rivals Pack (rivalled ps) (rival_of ps (rivalled ps))) refl f
-    go false k f = record {
-      none = ⊎_elim (λ (z : 0 < rivalled ps). not_true (ltb 0 (rivalled ps)) k (lt-ltb 0 (rivalled ps) z)) (λ (z : rivalled ps ≤ 0). omega arith) (cases_lt 0 (rivalled ps));
-      is = cc;
-    }
+    go true k f = cc
+    go false k f = record { none = (let z = ltb-false 0 (rivalled ps) k in omega arith); is = cc }
 
 -- Its table.
 pub table_is : (name : Naming) (ps : List Page) (ts : List Record) → length ps ≤ length ts → rivalled ps ≡ 0 → survey_table name ps ts ≡ table_of name ps ++ drop (length ps) ts
 table_is name ps ts h none = rw (le-ltb (length ts) (length ps) h, none)
-
-drop_front : {A : Type 0} (xs ys : List A) (n : ℕ) → length xs ≡ n → drop n (xs ++ ys) ≡ ys
-drop_front [] ys n e = rw (sym e)
-drop_front (x ∷ xs) ys n e = let k : n ≡ suc (length xs) = omega arith in rw k (drop_front xs ys (length xs) refl)
 
 module _ (name : Naming) (ps : List Page) (ts vs : List Record) (h : length ps ≤ length ts) (none : rivalled ps ≡ 0) (e : vs ≡ survey_table name ps ts) where
   is : vs ≡ table_of name ps ++ drop (length ps) ts
@@ -66,7 +54,7 @@ module _ (name : Naming) (ps : List Page) (ts vs : List Record) (h : length ps �
 
   pub cleared_again : length ps ≤ length vs → cleared (length ps) vs ≡ cleared (length ps) ts
   cleared_again k =
-      cleared_is (length ps) vs k ∙ (ap (λ (us : List Record). replicate (length ps) no_record ++ us) (ap (drop (length ps)) is ∙ drop_front (table_of name ps) (drop (length ps) ts) (length ps) (length_table name ps))
+      cleared_is (length ps) vs k ∙ (ap (λ (us : List Record). replicate (length ps) no_record ++ us) (ap (drop (length ps)) is ∙ drop_at (table_of name ps) (drop (length ps) ts) (length ps) (length_table name ps))
       ∙ sym (cleared_is (length ps) ts h))
 
   -- What a test keeps of page numbers, by a table of them.

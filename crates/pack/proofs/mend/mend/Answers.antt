@@ -8,9 +8,6 @@ use Rattle.ledger.proofs.Running.{broke}
 use Rattle.pack.proofs.MendingLoop.{turn_plan, mends_more, mends_cut, mends_all}
 use Rattle.pack.proofs.mend.mend.Goals as goal
 
-pub loop-page-init : goal.loop-page-init
-loop-page-init g c = c.find_links-links.ensures.same
-
 pub returns-in_err-mend_page : goal.returns-in_err-mend_page
 returns-in_err-mend_page g c =
     let m : Medium = g.D.Reader.medium c.args.drive.now in

@@ -20,5 +20,5 @@ loop-page-preserved c =
           ap (λ (b : BitTable). b.words) w.bits-is ∙ (w.free.ensures ∙ (cond-true (ltb p 9744) (freed ws p) ws (lt-ltb p 9744 (omega arith))
           ∙ (ap (λ (xs : List ℕ). freed xs p) c.loop-page.invariant ∙ sym (freed_more ts none_free p (sym c.ends_free.ensures ∙ w.if-ends_free.true)))))
       | else-ends_free w ↦
-          ap (λ (b : BitTable). b.words) w.bits-is ∙ (c.loop-page.invariant ∙ ap (λ (ps : List ℕ). free_all ps none_free) (sym (freed_left ts p (sym c.ends_free.ensures ∙ w.if-ends_free.false))))
+          ap (λ (b : BitTable). b.words) w.bits-is ∙ (c.loop-page.invariant ∙ sym (freed_left ts none_free p (sym c.ends_free.ensures ∙ w.if-ends_free.false)))
     ]
