@@ -1,5 +1,5 @@
 -- The loop that mends page after page.
-use Rattle.std.proofs.Common.{◌≡◌, ℕ, zero, suc, ◌+◌, ◌-◌, ◌<◌, ◌≤◌, Bool, true, false, ◌⊎◌, List, [], ◌++◌, length, get_or, Some, None, Option, sym, refl, ap, ◌∙◌, subst, inl, inr, ⊎_elim, append_assoc, append-nil, arith}
+use Rattle.std.proofs.Common.{◌≡◌, ℕ, zero, suc, ◌+◌, ◌-◌, ◌<◌, ◌≤◌, Bool, true, false, List, [], ◌++◌, length, get_or, Some, None, Option, sym, refl, ap, ◌∙◌, subst, ⊎_elim, append_assoc, append-nil, arith}
 use Rattle.std.specs.List.{range_with_len}
 use Rattle.std.specs.Bool.{then_some}
 use Rattle.std.proofs.lemmas.Bool.{lt-ltb, cases_lt}
@@ -47,12 +47,9 @@ mends_more name real m n t i h a b = subst (λ (ws : List Write). Through ws m t
 gathered_rest : (f : ℕ → List Write) (a i n : ℕ) → i ≤ n → (zs : List Write) × (gathered f (range_with_len a n) ≡ gathered f (range_with_len a i) ++ zs)
 gathered_rest f a i zero h = ([], let k : i ≡ 0 = omega arith in rw k)
 gathered_rest f a i (suc n) h = ⊎_elim
+    (λ (k : n < i). ([], (let e : suc n ≡ i = omega arith in ap (λ (x : ℕ). gathered f (range_with_len a x)) e) ∙ sym (append-nil (gathered f (range_with_len a i)))))
     (λ (k : i ≤ n). let r = gathered_rest f a i n k in (r.0 ++ f (a + n), gathered_more f a n (a + n) refl ∙ (ap (λ (ws : List Write). ws ++ f (a + n)) r.1 ∙ append_assoc (gathered f (range_with_len a i)) r.0 (f (a + n)))))
-    (λ (k : i ≡ suc n). ([], ap (λ (x : ℕ). gathered f (range_with_len a x)) (sym k) ∙ sym (append-nil (gathered f (range_with_len a i)))))
-    (split i n h)
-  where
-    split : (i n : ℕ) → i ≤ suc n → (i ≤ n) ⊎ (i ≡ suc n)
-    split i n h = ⊎_elim (λ (k : n < i). inr (omega arith)) (λ (k : i ≤ n). inl k) (cases_lt n i)
+    (cases_lt n i)
 
 pub mends_cut : (name : Naming) (real : ℕ → ℕ) (m n : Medium) (e : Refusal) (t : Medium) (i : ℕ) → 0 < i → i < length m.pages → Through (gathered (mend_at name real m.pages) (range_with_len 1 (i - 1))) m n → Stopped (mend_at name real m.pages i) n e t → Stopped (mend_writes name real m.pages) m e t
 unfolding mend_writes
