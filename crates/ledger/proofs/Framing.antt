@@ -82,7 +82,7 @@ elsewhere name ps f l un no_name new = record {
 }
 
 -- The free label joins nothing.
-free_joins : (a : Option Label) → joins a (Some free_label) ≡ false
+pub free_joins : (a : Option Label) → joins a (Some free_label) ≡ false
 free_joins None = refl
 free_joins (Some l) = refl
 

@@ -13,7 +13,7 @@ use Rattle.survey.specs.declared.table.Record.{Record}
 use Rattle.survey.specs.declared.table.Verdict.{Verdict}
 use Rattle.survey.specs.declared.table.Verdict.TheVariants.{Reserved, Free, Chained, Stray, Aside}
 use Rattle.survey.specs.Chains.{Naming, is_leader, follower, chain, rest, pages_above, leader_of, rivalled}
-use Rattle.survey.specs.Verdicts.{verdict_number, bare, filed, owned, record_of, table_of}
+use Rattle.survey.specs.Verdicts.{bare, filed, owned, record_of, table_of}
 use Rattle.survey.specs.Laws.{In}
 use Rattle.survey.proofs.Walks.{Links, links_at}
 use Rattle.survey.proofs.Following.{never, not_true, links, leader_from, leader_is, has_label, follows, member, Member, file_not_free}
@@ -75,22 +75,16 @@ unchained_verdict name ps p l h c e = rw (lt-ltb 0 p h, e) (go (is_free l))
 pub aside_verdict : (name : Naming) (ps : List Page) (p : ℕ) → 0 < p → label_at ps p ≡ None → ends_free (record_of name ps p).verdict ≡ false
 aside_verdict name ps p h e = rw (lt-ltb 0 p h, e)
 
-other : {X : Type 0} (v w : Verdict) → v ≡ w → (verdict_number v ≡ verdict_number w → ⊥) → X
-other v w e d = absurd (d (ap verdict_number e))
-
 -- No page is a stray where each label can be read as free or is chained.
 pub no_stray_where : (name : Naming) (ps : List Page) → ((p : ℕ) (l : Label) → 0 < p → label_at ps p ≡ Some l → (is_free l ≡ true) ⊎ (is_chained name ps p ≡ true)) → (p : ℕ) → (record_of name ps p).verdict ≡ Stray → ⊥
 no_stray_where name ps placed p = above (cases_lt 0 p) (label_at ps p) refl
   where
-    unlike : (v : Verdict) → v ≡ Stray → (verdict_number v ≡ 3 → ⊥) → ⊥
-    unlike v e d = d (ap verdict_number e)
-
     above : (0 < p) ⊎ (p ≤ 0) → (o : Option Label) → label_at ps p ≡ o → (record_of name ps p).verdict ≡ Stray → ⊥
-    above (inr z) o e s = let b : ltb 0 p ≡ false = le-ltb 0 p z in let s2 : Reserved ≡ Stray = rw b at s in unlike Reserved s2 (λ k. omega arith)
-    above (inl h) None e s = let b : ltb 0 p ≡ true = lt-ltb 0 p h in let s2 : Aside ≡ Stray = rw (b, e) at s in unlike Aside s2 (λ k. omega arith)
+    above (inr z) o e s = let b : ltb 0 p ≡ false = le-ltb 0 p z in let s2 : Reserved ≡ Stray = rw b at s in cc
+    above (inl h) None e s = let b : ltb 0 p ≡ true = lt-ltb 0 p h in let s2 : Aside ≡ Stray = rw (b, e) at s in cc
     above (inl h) (Some l) e s = ⊎_elim
-        (λ (f : is_free l ≡ true). let b : ltb 0 p ≡ true = lt-ltb 0 p h in let s2 : Free ≡ Stray = rw (b, e, f) at s in unlike Free s2 (λ k. omega arith))
-        (λ (c : is_chained name ps p ≡ true). let s2 : Chained ≡ Stray = sym (chained_verdict name ps p c) ∙ s in unlike Chained s2 (λ k. omega arith))
+        (λ (f : is_free l ≡ true). let b : ltb 0 p ≡ true = lt-ltb 0 p h in let s2 : Free ≡ Stray = rw (b, e, f) at s in cc)
+        (λ (c : is_chained name ps p ≡ true). let s2 : Chained ≡ Stray = sym (chained_verdict name ps p c) ∙ s in cc)
         (placed p l h e)
 
 -- The largest serial number of a table.

@@ -10,7 +10,7 @@ use Rattle.survey.proofs.Following.{never, not_true, kept_some, kept_from, file_
 use Rattle.survey.proofs.Leading.{tested, Led, leader_of_is, leader_of_there}
 use Rattle.ledger.specs.Frames.{SameChains}
 use Rattle.ledger.specs.Mends.{is_chained, page_after, page_before, page_or_none, relinked, mended_label}
-use Rattle.ledger.proofs.Framing.{chain_same}
+use Rattle.ledger.proofs.Framing.{chain_same, free_joins}
 
 -- What is used of the naming of n pages.
 pub record Names (name : Naming) (real : ℕ → ℕ) (n : ℕ) : Type 0 where
@@ -38,10 +38,6 @@ joins_from_relinked n b l (Some m) = refl
 
 pub leads_relinked : (n b : ℕ) (l : Label) → leads (Some (relinked n b l)) ≡ leads (Some l)
 leads_relinked n b l = ap (λ (t : Bool). t && (eqb l.number 0 && eqb l.characters 512)) (file_relinked n b l)
-
-pub free_joins : (a : Option Label) → joins a (Some free_label) ≡ false
-free_joins None = refl
-free_joins (Some l) = refl
 
 -- Chained by a leader, as a test.
 pub chained_led : (name : Naming) (ps : List Page) (p : ℕ) → is_chained name ps p ≡ true → Led name ps (leader_of name ps p) p

@@ -9,10 +9,9 @@ use Rattle.disk.specs.Media.{Page, label_at, Write}
 use Rattle.disk.proofs.Naming.{conversion}
 use Rattle.bits.specs.Bits.{page_bit, none_free, In as Listed}
 use Rattle.bits.proofs.Tables.{free_all_in, free_all_out, none_free_bit, none_free_length}
-use Rattle.survey.specs.declared.table.Verdict.{Verdict}
 use Rattle.survey.specs.declared.table.Verdict.TheVariants.{Reserved, Free, Chained, Stray, Aside}
 use Rattle.survey.specs.Chains.{Naming, is_leader, follower, rest, chain, leader_of, rivalled, rival_of}
-use Rattle.survey.specs.Verdicts.{verdict_number, record_of}
+use Rattle.survey.specs.Verdicts.{record_of}
 use Rattle.survey.specs.Laws.{In, Leader, InOneChain}
 use Rattle.survey.proofs.Following.{not_true, follower_from, rest_is, leader_is, leader_from, has_label}
 use Rattle.survey.proofs.Leading.{first_is, first_none, Led, leader_of_is, leader_only, rivalled_is}
@@ -186,24 +185,21 @@ module _ (c : ℕ) (qs : List Page) (f : Fresh c qs) where
   }
 
   -- No strays.
-  unlike : (v w : Verdict) → v ≡ w → (verdict_number v ≡ verdict_number w → ⊥) → ⊥
-  unlike v w e d = d (ap verdict_number e)
-
   no_stray : (p : ℕ) → (record_of name qs p).verdict ≡ Stray → ⊥
   no_stray p = go (cases_lt 0 p) (label_at qs p) refl
     where
       here : Led name qs 1 p → (record_of name qs p).verdict ≡ Stray → ⊥
-      here d e = unlike Chained Stray (sym (led_chained name qs 1 p d) ∙ e) (λ z. omega arith)
+      here d e = let z : Chained ≡ Stray = sym (led_chained name qs 1 p d) ∙ e in cc
 
       go : (0 < p) ⊎ (p ≤ 0) → (o : Option Label) → label_at qs p ≡ o → (record_of name qs p).verdict ≡ Stray → ⊥
-      go (inr h) o s e = unlike Reserved Stray (rw (le-ltb 0 p h) at e) (λ z. omega arith)
-      go (inl h) None s e = unlike Aside Stray (rw (lt-ltb 0 p h, s) at e) (λ z. omega arith)
+      go (inr h) o s e = let z : Reserved ≡ Stray = rw (le-ltb 0 p h) at e in cc
+      go (inl h) None s e = let z : Aside ≡ Stray = rw (lt-ltb 0 p h, s) at e in cc
       go (inl h) (Some l) s e = labelled (kind p l h s (has_label qs p l s))
         where
           labelled : Kinds p l → ⊥
           labelled (inl t) = here (subst (λ (x : ℕ). Led name qs 1 x) (sym t.0) led_1) e
           labelled (inr (inl t)) = here (subst (λ (x : ℕ). Led name qs 1 x) (sym t.0) led_2) e
-          labelled (inr (inr t)) = unlike Free Stray (rw (lt-ltb 0 p h, s, t.1) at e) (λ z. omega arith)
+          labelled (inr (inr t)) = let z : Free ≡ Stray = rw (lt-ltb 0 p h, s, t.1) at e in cc
 
   -- Nothing to mend.
   after_1 : page_after name qs 1 ≡ 2

@@ -1,8 +1,9 @@
 -- Runs of planned writes: joined, parted, and as loops and walks make them.
-use Rattle.std.proofs.Common.{◌≡◌, ℕ, ◌+◌, ◌<◌, ◌≤◌, Bool, true, false, ◌⊎◌, List, [], ◌∷◌, ◌++◌, length, get_or, take, drop, IsErrAnd, Ok, Err, Result, sym, refl, ap, ◌∙◌, subst, inl, inr, ⊎_elim, arith, length-set}
+use Rattle.std.proofs.Common.{◌≡◌, ℕ, ◌+◌, ◌<◌, ◌≤◌, true, false, ◌⊎◌, List, [], ◌∷◌, ◌++◌, length, get_or, take, drop, IsErrAnd, Ok, Err, Result, sym, refl, ap, ◌∙◌, subst, inl, inr, ⊎_elim, arith, length-set}
 use Rattle.std.proofs.lemmas.List.{take_more, take-append-drop, take_all}
 use Rattle.disk.specs.declared.refusal.Refusal.{Refusal}
 use Rattle.disk.specs.Media.{Page, Medium, Part, a_label, a_data, Write, put, after, Ignored, Torn, Cut, Written}
+use Rattle.survey.proofs.Following.{not_true}
 use Rattle.ledger.specs.Runs.{applied, Through, Stopped, Ran, whole, Whole, Inside, Value, Split, Kept, BothThrough, SecondStopped, NothingDone, RunLaws}
 
 -- One write is a run.
@@ -132,19 +133,16 @@ pub split_stopped : (ws : List Write) (m : Medium) (e : Refusal) (t : Medium) �
 split_stopped ws m e t k = subst (λ (us : List Write). Stopped us m e t) (sym k.plan) (stopped_then k.done (k.at ∷ k.later) m k.before e t k.through (inl k.refused))
 
 -- A drive that is off.
-never : {X : Type 0} (b : Bool) → b ≡ true → b ≡ false → X
-never b h k = let z : ◌≡◌ {A = ℕ} 0 1 = cc in absurd (omega arith)
-
 pub off_stopped : (w : Write) (ws : List Write) (m : Medium) (e : Refusal) (t : Medium) → m.on ≡ false → Stopped (w ∷ ws) m e t → NothingDone w m e t
-off_stopped w ws m e t off (inl h) = record { names = h.0; same = ⊎_elim (λ (i : Ignored w m t). i.same) (λ (c : Cut w m t). never m.on c.goes.on off) h.1 }
-off_stopped w ws m e t off (inr h) = never m.on h.0.on off
+off_stopped w ws m e t off (inl h) = record { names = h.0; same = ⊎_elim (λ (i : Ignored w m t). i.same) (λ (c : Cut w m t). not_true m.on off c.goes.on) h.1 }
+off_stopped w ws m e t off (inr h) = not_true m.on off h.0.on
 
 -- A steady drive that is on stops at no write inside.
 pub steady_on : (ws : List Write) (m : Medium) (e : Refusal) (t : Medium) → m.steady ≡ true → m.on ≡ true → Inside ws m → Stopped ws m e t → ⊥
 steady_on [] m e t st on a h = h
 steady_on (w ∷ ws) m e t st on a (inl h) = ⊎_elim
-    (λ (i : Ignored w m t). ⊎_elim (λ (k : length m.pages ≤ w.page). let q = a.0 in omega arith) (λ (k : m.on ≡ false). never m.on on k) i.why)
-    (λ (c : Cut w m t). never m.steady st c.not_steady)
+    (λ (i : Ignored w m t). ⊎_elim (λ (k : length m.pages ≤ w.page). let q = a.0 in omega arith) (λ (k : m.on ≡ false). not_true m.on k on) i.why)
+    (λ (c : Cut w m t). not_true m.steady c.not_steady st)
     h.1
 steady_on (w ∷ ws) m e t st on a (inr h) = steady_on ws (after w m) e t st on (inside_same ws (after w m) m (sym (length_put m.pages w.page w.part)) a.1) h.1
 
@@ -154,14 +152,14 @@ steady_value ws m (Err e) t h st on k = absurd (steady_on ws m e t st on k h)
 
 pub steady_stop : (ws : List Write) (m : Medium) (e : Refusal) (t : Medium) → m.steady ≡ true → (k : Split ws m e t) → t ≡ whole k.done m
 steady_stop ws m e t st k =
-    ⊎_elim (λ (i : Ignored k.at k.before t). i.same) (λ (c : Cut k.at k.before t). never k.before.steady ((through_kept k.done m k.before k.through).steady ∙ st) c.not_steady) k.refused.1
+    ⊎_elim (λ (i : Ignored k.at k.before t). i.same) (λ (c : Cut k.at k.before t). not_true k.before.steady c.not_steady ((through_kept k.done m k.before k.through).steady ∙ st)) k.refused.1
     ∙ through_whole k.done m k.before k.through
 
 -- A drive that was on, and has the pages, stops by turning off.
 pub stopped_off : (ws : List Write) (m : Medium) (e : Refusal) (t : Medium) → m.on ≡ true → Inside ws m → Stopped ws m e t → t.on ≡ false
 stopped_off [] m e t on a h = absurd h
 stopped_off (w ∷ ws) m e t on a (inl h) = ⊎_elim
-    (λ (i : Ignored w m t). ⊎_elim (λ (k : length m.pages ≤ w.page). let q = a.0 in absurd (omega arith)) (λ (k : m.on ≡ false). never m.on on k) i.why)
+    (λ (i : Ignored w m t). ⊎_elim (λ (k : length m.pages ≤ w.page). let q = a.0 in absurd (omega arith)) (λ (k : m.on ≡ false). not_true m.on k on) i.why)
     (λ (c : Cut w m t). ap (λ (x : Medium). x.on) c.is)
     h.1
 stopped_off (w ∷ ws) m e t on a (inr h) = stopped_off ws (after w m) e t on (inside_same ws (after w m) m (sym (length_put m.pages w.page w.part)) a.1) h.1
@@ -240,7 +238,7 @@ run_laws = record {
   went_inside = through_inside;
   went_on = through_on;
   off = off_stopped;
-  off_through = λ w ws m t o h. never m.on h.0.on o;
+  off_through = λ w ws m t o h. not_true m.on o h.0.on;
   steady = steady_on;
   value = λ ws m r t h. steady_value ws m r t h;
   steady_stop = steady_stop;

@@ -1,5 +1,5 @@
 -- A scavenge by its plan: what it comes to on every drive.
-use Rattle.std.proofs.Common.{◌≡◌, ℕ, zero, suc, ◌+◌, ◌-◌, ◌<◌, ◌≤◌, Bool, true, false, cond, ltb, ◌⊎◌, List, [], ◌∷◌, length, is_ok, Some, None, Ok, Err, Option, Result, sym, refl, ap, ◌∙◌, subst, inl, inr, ⊎_elim, arith}
+use Rattle.std.proofs.Common.{◌≡◌, ℕ, zero, suc, ◌+◌, ◌-◌, ◌<◌, ◌≤◌, Bool, true, false, cond, ltb, ◌⊎◌, List, [], ◌∷◌, length, is_ok, Some, None, Ok, Err, Option, Result, sym, refl, ap, subst, inl, inr, ⊎_elim, arith}
 use Rattle.std.specs.List.{range_with_len, AllByRecursion}
 use Rattle.std.proofs.lemmas.Bool.{lt-ltb, le-ltb, ltb-true}
 use Rattle.std.proofs.ByRecursion.{All-append}
@@ -52,7 +52,7 @@ pub names_of : (m : Medium) → Sized m → Conversion m.cylinders → Names (pa
 names_of m f c = let a = f.least in let b = f.pages in record { nought = c.nought; there = λ p h. c.there p (omega arith); some_page = omega arith }
 
 never_ok : {X : Type 0} {A : Type 0} (r : Result A Refusal) (e : Refusal) → r ≡ Err e → is_ok r ≡ true → X
-never_ok r e h k = let z : false ≡ true = sym (ap is_ok h) ∙ k in not_true false refl z
+never_ok r e h k = not_true (is_ok r) (ap is_ok h) k
 
 module _ (m : Medium) (k : PackRecord) (room : ℕ) (f : Sized m) (conv : Conversion m.cylinders) where
   name : Naming

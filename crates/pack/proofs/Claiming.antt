@@ -1,6 +1,8 @@
 -- A claim on the page that was found.
 use Rattle.std.proofs.Common.{◌≡◌, ℕ, ◌<◌, ◌≤◌, min, true, cond, ltb, List, Some, Ok, Option, sym, ap, ◌∙◌, subst, arith}
 use Rattle.std.proofs.lemmas.Bool.{cond-true, lt-ltb}
+use Rattle.std.specs.Option.{option_map}
+use Rattle.disk.specs.declared.address.PageAddress.{PageAddress}
 use Rattle.disk.specs.Media.{Page, label_at}
 use Rattle.bits.specs.Bits.{round_free, start_page, taken, SomeFree}
 use Rattle.bits.proofs.Searches.{next_free_is}
@@ -9,8 +11,11 @@ use Rattle.ledger.specs.Searches.{searched, free_label_at}
 use Rattle.pack.specs.Claims.{claim_answer, claim_record}
 
 -- A pack has at most 9,744 pages.
-pub few : (ws : List ℕ) (start n m : ℕ) (o : Option ℕ) → m ≤ 9744 → m ≡ n → o ≡ round_free ws (start_page start (min m 9744)) (min m 9744) → o ≡ round_free ws (start_page start n) n
-few ws start n m o h e a = let k : min m 9744 ≡ n = omega arith in a ∙ ap (λ (x : ℕ). round_free ws (start_page start x) x) k
+pub few : (ws : List ℕ) (start n m : ℕ) (o : Option PageAddress) (p : PageAddress) → m ≤ 9744 → m ≡ n → o ≡ Some p → option_map (λ a. a.page) o ≡ round_free ws (start_page start (min m 9744)) (min m 9744) → Some p.page ≡ round_free ws (start_page start n) n
+few ws start n m o p h e k a =
+    let j : min m 9744 ≡ n = omega arith in
+    let b : Some p.page ≡ round_free ws (start_page start (min m 9744)) (min m 9744) = rw k at a in
+    b ∙ ap (λ (x : ℕ). round_free ws (start_page start x) x) j
 
 pub found_below : (k : PackRecord) (start n p : ℕ) → Some p ≡ searched k start n → p < n
 found_below k start n p e = (subst (λ (o : Option ℕ). SomeFree k.bits.words n o) (sym e) (next_free_is k.bits.words start n)).below

@@ -4,3 +4,4 @@ pub mod Noting
 pub mod MendingLoop
 pub mod Renewing
 pub mod Restored
+pub mod Doing

@@ -1,28 +1,35 @@
 -- The loop that mends page after page.
-use Rattle.std.proofs.Common.{◌≡◌, ℕ, zero, suc, ◌+◌, ◌-◌, ◌<◌, ◌≤◌, Bool, true, false, ◌⊎◌, List, [], ◌++◌, length, get_or, Some, None, Option, sym, refl, ap, ◌∙◌, subst, inl, inr, ⊎_elim, append_assoc, append-nil, arith}
+use Rattle.std.proofs.Common.{◌≡◌, ℕ, zero, suc, ◌+◌, ◌-◌, ◌<◌, ◌≤◌, Bool, true, false, List, [], ◌++◌, length, get_or, Some, None, Option, sym, refl, ap, ◌∙◌, subst, ⊎_elim, append_assoc, append-nil, arith}
 use Rattle.std.specs.List.{range_with_len}
+use Rattle.std.specs.Bool.{then_some}
 use Rattle.std.proofs.lemmas.Bool.{lt-ltb, cases_lt}
 use Rattle.disk.specs.declared.label.Label.{Label}
 use Rattle.disk.specs.declared.refusal.Refusal.{Refusal}
+use Rattle.disk.specs.Addresses.{real_address}
 use Rattle.disk.specs.Media.{Page, Medium, Write, label_at}
+use Rattle.survey.specs.declared.table.Record.{Record}
+use Rattle.survey.specs.declared.table.Verdict.TheVariants.{Chained}
 use Rattle.survey.specs.Chains.{Naming}
+use Rattle.survey.specs.Steps.{no_record}
 use Rattle.ledger.specs.Runs.{Through, Stopped}
 use Rattle.ledger.specs.Mends.{is_chained, page_after, page_before, mended, mended_label, relabelling, mend_at, gathered, mend_writes}
 use Rattle.ledger.proofs.Running.{through_then, stopped_then, stopped_early, through_whole}
 use Rattle.ledger.proofs.Restoring.{gathered_more, prefix}
-use Rattle.pack.specs.Linking.{LinksFound}
+use Rattle.pack.specs.declared.links.Links.{Links}
+use Rattle.pack.specs.Linking.{Surveyed, links_at, LinksFound, mended_by}
+use Rattle.pack.proofs.Noting.{says_chained}
 
 -- What is written on page p.
-mended_so : (b : Bool) (n w x y : ℕ) (o : Option Label) → (b ≡ true → n ≡ x) → (b ≡ true → w ≡ y) → mended b n w o ≡ mended b x y o
-mended_so b n w x y None h k = refl
-mended_so true n w x y (Some l) h k = rw (h refl, k refl)
-mended_so false n w x y (Some l) h k = refl
+mended_so : (b : Bool) (k : Links) (x y : ℕ) (o : Option Label) → (b ≡ true → k.next.word ≡ x) → (b ≡ true → k.previous.word ≡ y) → mended_by (then_some b k) o ≡ mended b x y o
+mended_so true k x y o h j = rw (h refl, j refl)
+mended_so false k x y None h j = refl
+mended_so false k x y (Some l) h j = refl
 
-pub mend_so : (name : Naming) (real : ℕ → ℕ) (ps : List Page) (p : ℕ) (b : Bool) (n w : ℕ) → 0 < p → b ≡ is_chained name ps p → (b ≡ true → n ≡ real (page_after name ps p)) → (b ≡ true → w ≡ real (page_before name ps p)) → relabelling p (label_at ps p) (mended b n w (label_at ps p)) ≡ mend_at name real ps p
+mend_so : (name : Naming) (ps : List Page) (p : ℕ) (ls : List Links) → 0 < p → p < length ps → LinksFound name ps ls → relabelling p (label_at ps p) (mended_by (then_some (is_chained name ps p) (links_at ls p)) (label_at ps p)) ≡ mend_at name real_address ps p
 unfolding mend_at mended_label
-mend_so name real ps p b n w h e i j =
-    ap (relabelling p (label_at ps p)) (mended_so b n w (real (page_after name ps p)) (real (page_before name ps p)) (label_at ps p) i j
-    ∙ (ap (λ (t : Bool). mended t (real (page_after name ps p)) (real (page_before name ps p)) (label_at ps p)) e ∙ rw (lt-ltb 0 p h)))
+mend_so name ps p ls h k f =
+    ap (relabelling p (label_at ps p)) (mended_so (is_chained name ps p) (links_at ls p) (real_address (page_after name ps p)) (real_address (page_before name ps p)) (label_at ps p) (f.after p h k) (λ _. f.before p h)
+    ∙ rw (lt-ltb 0 p h))
 
 -- The page at hand is as it was when the pages below it are mended.
 pub still : (name : Naming) (real : ℕ → ℕ) (m n : Medium) (i : ℕ) → 0 < i → Through (gathered (mend_at name real m.pages) (range_with_len 1 (i - 1))) m n → label_at n.pages i ≡ label_at m.pages i
@@ -40,12 +47,9 @@ mends_more name real m n t i h a b = subst (λ (ws : List Write). Through ws m t
 gathered_rest : (f : ℕ → List Write) (a i n : ℕ) → i ≤ n → (zs : List Write) × (gathered f (range_with_len a n) ≡ gathered f (range_with_len a i) ++ zs)
 gathered_rest f a i zero h = ([], let k : i ≡ 0 = omega arith in rw k)
 gathered_rest f a i (suc n) h = ⊎_elim
+    (λ (k : n < i). ([], (let e : suc n ≡ i = omega arith in ap (λ (x : ℕ). gathered f (range_with_len a x)) e) ∙ sym (append-nil (gathered f (range_with_len a i)))))
     (λ (k : i ≤ n). let r = gathered_rest f a i n k in (r.0 ++ f (a + n), gathered_more f a n (a + n) refl ∙ (ap (λ (ws : List Write). ws ++ f (a + n)) r.1 ∙ append_assoc (gathered f (range_with_len a i)) r.0 (f (a + n)))))
-    (λ (k : i ≡ suc n). ([], ap (λ (x : ℕ). gathered f (range_with_len a x)) (sym k) ∙ sym (append-nil (gathered f (range_with_len a i)))))
-    (split i n h)
-  where
-    split : (i n : ℕ) → i ≤ suc n → (i ≤ n) ⊎ (i ≡ suc n)
-    split i n h = ⊎_elim (λ (k : n < i). inr (omega arith)) (λ (k : i ≤ n). inl k) (cases_lt n i)
+    (cases_lt n i)
 
 pub mends_cut : (name : Naming) (real : ℕ → ℕ) (m n : Medium) (e : Refusal) (t : Medium) (i : ℕ) → 0 < i → i < length m.pages → Through (gathered (mend_at name real m.pages) (range_with_len 1 (i - 1))) m n → Stopped (mend_at name real m.pages i) n e t → Stopped (mend_writes name real m.pages) m e t
 unfolding mend_writes
@@ -60,7 +64,7 @@ unfolding mend_writes
 mends_all name real m t i e h = subst (λ (n : ℕ). Through (gathered (mend_at name real m.pages) (range_with_len 1 (n - 1))) m t) e h
 
 -- What a turn of the loop plans, by what it reads on the way.
-pub turn_plan : (name : Naming) (real : ℕ → ℕ) (m n : Medium) (i : ℕ) (b : Bool) (next previous : ℕ) (behind ahead : List ℕ) → 0 < i → i < length m.pages → Through (gathered (mend_at name real m.pages) (range_with_len 1 (i - 1))) m n → b ≡ is_chained name m.pages i → LinksFound name m.pages behind ahead → next ≡ real (get_or behind i 0) → previous ≡ real (get_or ahead i 0) → relabelling i (label_at n.pages i) (mended b next previous (label_at n.pages i)) ≡ mend_at name real m.pages i
-turn_plan name real m n i b next previous behind ahead h k t e f x y =
-    ap (λ (o : Option Label). relabelling i o (mended b next previous o)) (still name real m n i h t)
-    ∙ mend_so name real m.pages i b next previous h e (λ z. x ∙ ap real (f.after i h k (sym e ∙ z))) (λ z. y ∙ ap real (f.before i h))
+pub turn_plan : (name : Naming) (m n : Medium) (i : ℕ) (ts : List Record) (ls : List Links) (b : Bool) (o : Option Links) → 0 < i → i < length m.pages → Through (gathered (mend_at name real_address m.pages) (range_with_len 1 (i - 1))) m n → Surveyed name m.pages ts → LinksFound name m.pages ls → (b ≡ true → (get_or ts i no_record).verdict ≡ Chained) → ((get_or ts i no_record).verdict ≡ Chained → b ≡ true) → o ≡ then_some b (links_at ls i) → relabelling i (label_at n.pages i) (mended_by o (label_at n.pages i)) ≡ mend_at name real_address m.pages i
+turn_plan name m n i ts ls b o h k t v f x y e =
+    let c : b ≡ is_chained name m.pages i = says_chained name m.pages i (get_or ts i no_record) b (v.filled i k) x y in
+    rw (e, still name real_address m n i h t, c) (mend_so name m.pages i ls h k f)

@@ -1,9 +1,8 @@
 -- What a survey has found, and the record that is made of it.
-use Rattle.std.proofs.Common.{◌≡◌, ℕ, zero, suc, ◌+◌, ◌-◌, ◌<◌, ◌≤◌, Bool, true, false, cond, ltb, List, [], ◌∷◌, ◌++◌, length, get_or, take, drop, replicate, Ok, Err, filter, Result, sym, refl, ap, ◌∙◌, ⊎_elim, arith}
+use Rattle.std.proofs.Common.{◌≡◌, ℕ, zero, suc, ◌+◌, ◌-◌, ◌<◌, ◌≤◌, Bool, true, false, cond, ltb, List, ◌∷◌, ◌++◌, length, get_or, take, drop, replicate, Ok, Err, filter, sym, refl, ap, ◌∙◌, arith}
 use Rattle.std.specs.List.{range_with_len}
-use Rattle.std.proofs.lemmas.Bool.{le-ltb, lt-ltb, cases_lt}
-use Rattle.std.proofs.lemmas.List.{get_or_append_left, take-append-le, take_all}
-use Rattle.disk.specs.declared.refusal.Refusal.{Refusal}
+use Rattle.std.proofs.lemmas.Bool.{le-ltb, ltb-false}
+use Rattle.std.proofs.lemmas.List.{get_or_append_left, take-append-le, take_all, drop_at}
 use Rattle.disk.specs.declared.refusal.Reason.TheVariants.{TooSmall, Rivals}
 use Rattle.disk.specs.declared.refusal.Place.TheVariants.{Pack}
 use Rattle.disk.specs.Refusals.{refusal, refusal_of_two}
@@ -15,14 +14,10 @@ use Rattle.survey.specs.declared.table.Totals.{Totals}
 use Rattle.survey.specs.Chains.{Naming, rivalled, rival_of}
 use Rattle.survey.specs.Verdicts.{record_of, table_of, totals, found, cleared, survey_answer, survey_table}
 use Rattle.survey.specs.Steps.{no_record}
-use Rattle.survey.proofs.Following.{not_true}
 use Rattle.survey.proofs.Finding.{length_table, at_table}
 use Rattle.survey.proofs.Counting.{cleared_is}
 use Rattle.ledger.specs.Mends.{ends_free, largest_serial, pages_freed, mended_record}
-use Rattle.pack.specs.Linking.{Filled, freed_in}
-
-never_one : {X : Type 0} (r : Result Totals Refusal) (a : Totals) (e : Refusal) → r ≡ Ok a → r ≡ Err e → X
-never_one r a e h k = let z : ◌≡◌ {A = ℕ} 0 1 = cc in absurd (omega arith)
+use Rattle.pack.specs.Linking.{Surveyed, freed_in}
 
 -- A survey that was answered has found no rivals.
 pub record Answered (name : Naming) (ps : List Page) (a : Totals) : Type 0 where
@@ -33,28 +28,24 @@ pub answered : (name : Naming) (ps : List Page) (room : ℕ) (a : Totals) → le
 answered name ps room a h e = go (ltb 0 (rivalled ps)) refl (e ∙ ap (λ (b : Bool). cond b (Err (refusal TooSmall Pack 0)) (found name ps (rivalled ps))) (le-ltb room (length ps) h))
   where
     go : (b : Bool) → ltb 0 (rivalled ps) ≡ b → Ok a ≡ cond b (Err (refusal_of_two Rivals Pack (rivalled ps) (rival_of ps (rivalled ps)))) (Ok (totals (table_of name ps))) → Answered name ps a
-    go true k f = never_one (Ok a) a (refusal_of_two Rivals Pack (rivalled ps) (rival_of ps (rivalled ps))) refl f
-    go false k f = record {
-      none = ⊎_elim (λ (z : 0 < rivalled ps). not_true (ltb 0 (rivalled ps)) k (lt-ltb 0 (rivalled ps) z)) (λ (z : rivalled ps ≤ 0). omega arith) (cases_lt 0 (rivalled ps));
-      is = cc;
-    }
+    go true k f = cc
+    go false k f = record { none = (let z = ltb-false 0 (rivalled ps) k in omega arith); is = cc }
 
 -- Its table.
 pub table_is : (name : Naming) (ps : List Page) (ts : List Record) → length ps ≤ length ts → rivalled ps ≡ 0 → survey_table name ps ts ≡ table_of name ps ++ drop (length ps) ts
 table_is name ps ts h none = rw (le-ltb (length ts) (length ps) h, none)
 
-drop_front : {A : Type 0} (xs ys : List A) (n : ℕ) → length xs ≡ n → drop n (xs ++ ys) ≡ ys
-drop_front [] ys n e = rw (sym e)
-drop_front (x ∷ xs) ys n e = let k : n ≡ suc (length xs) = omega arith in rw k (drop_front xs ys (length xs) refl)
-
 module _ (name : Naming) (ps : List Page) (ts vs : List Record) (h : length ps ≤ length ts) (none : rivalled ps ≡ 0) (e : vs ≡ survey_table name ps ts) where
   is : vs ≡ table_of name ps ++ drop (length ps) ts
   is = e ∙ table_is name ps ts h none
 
-  pub filled : Filled name ps vs
+  filled : (p : ℕ) → p < length ps → get_or vs p no_record ≡ record_of name ps p
   filled p k =
       let long = length_table name ps in
       ap (λ (us : List Record). get_or us p no_record) is ∙ (get_or_append_left (table_of name ps) (drop (length ps) ts) no_record p (omega arith) ∙ at_table name ps p k)
+
+  pub surveyed : length ps ≤ length vs → Surveyed name ps vs
+  surveyed k = record { room = k; filled = filled; none = none }
 
   front : take (length ps) vs ≡ table_of name ps
   front =
@@ -63,18 +54,26 @@ module _ (name : Naming) (ps : List Page) (ts vs : List Record) (h : length ps �
 
   pub cleared_again : length ps ≤ length vs → cleared (length ps) vs ≡ cleared (length ps) ts
   cleared_again k =
-      cleared_is (length ps) vs k ∙ (ap (λ (us : List Record). replicate (length ps) no_record ++ us) (ap (drop (length ps)) is ∙ drop_front (table_of name ps) (drop (length ps) ts) (length ps) (length_table name ps))
+      cleared_is (length ps) vs k ∙ (ap (λ (us : List Record). replicate (length ps) no_record ++ us) (ap (drop (length ps)) is ∙ drop_at (table_of name ps) (drop (length ps) ts) (length ps) (length_table name ps))
       ∙ sym (cleared_is (length ps) ts h))
 
+  -- What a test keeps of page numbers, by a table of them.
   kept_same : (t u : ℕ → Bool) (a n : ℕ) → ((x : ℕ) → x < a + n → t x ≡ u x) → filter t (range_with_len a n) ≡ filter u (range_with_len a n)
   kept_same t u a zero k = refl
   kept_same t u a (suc n) k = ap (λ (b : Bool). cond b (a ∷ filter t (range_with_len (a + 1) n)) (filter t (range_with_len (a + 1) n))) (k a (omega arith)) ∙ ap (λ (xs : List ℕ). cond (u a) (a ∷ xs) xs) (kept_same t u (a + 1) n (λ x l. k x (omega arith)))
 
-  pub freed_same : 1 ≤ length ps → freed_in vs (length ps) ≡ pages_freed name ps
-  freed_same some = kept_same (λ p. ends_free (get_or vs p no_record).verdict) (λ p. ends_free (record_of name ps p).verdict) 1 (length ps - 1) (λ x l. ap (λ (r : Record). ends_free r.verdict) (filled x (omega arith)))
+  -- Page 0 is reserved, so it does not end free.
+  above : (n : ℕ) → filter (λ p. ends_free (record_of name ps p).verdict) (range_with_len 0 n) ≡ filter (λ p. ends_free (record_of name ps p).verdict) (range_with_len 1 (n - 1))
+  above zero = refl
+  above (suc n) = let k : suc n - 1 ≡ n = omega arith in rw k
 
-  pub record_is : (n : ℕ) (highest : ℕ) (bits : BitTable) → length ps ≡ n → 1 ≤ n → highest ≡ largest_serial (take n vs) → bits.words ≡ free_all (freed_in vs n) none_free → record { ready = true; highest = highest; bits = bits } ≡ mended_record name ps
+  freed_same : freed_in (table_of name ps) (length (table_of name ps)) ≡ pages_freed name ps
+  freed_same = rw length_table (kept_same (λ p. ends_free (get_or (table_of name ps) p no_record).verdict) (λ p. ends_free (record_of name ps p).verdict) 0 (length ps) (λ x l. ap (λ (r : Record). ends_free r.verdict) (at_table name ps x (omega arith))) ∙ above (length ps))
+
+  pub record_is : (fs : List Record) (highest : ℕ) (bits : BitTable) → fs ≡ take (length ps) vs → highest ≡ largest_serial fs → bits.words ≡ free_all (freed_in fs (length fs)) none_free → record { ready = true; highest = highest; bits = bits } ≡ mended_record name ps
   unfolding mended_record
-  record_is n highest bits size some a b =
-      ap (λ (x : ℕ). record { ready = true; highest = x; bits = bits }) (a ∙ (ap (λ (k : ℕ). largest_serial (take k vs)) (sym size) ∙ ap largest_serial front))
-      ∙ ap (λ (ws : List ℕ). record { ready = true; highest = largest_serial (table_of name ps); bits = record { words = ws } }) (b ∙ (ap (λ (k : ℕ). free_all (freed_in vs k) none_free) (sym size) ∙ ap (λ (xs : List ℕ). free_all xs none_free) (freed_same (omega arith))))
+  record_is fs highest bits k a b =
+      let f : fs ≡ table_of name ps = k ∙ front in
+      let x : highest ≡ largest_serial (table_of name ps) = a ∙ ap largest_serial f in
+      let y : bits.words ≡ free_all (pages_freed name ps) none_free = rw (f, freed_same) at b in
+      ap (λ (n : ℕ). record { ready = true; highest = n; bits = bits }) x ∙ ap (λ (ws : List ℕ). record { ready = true; highest = largest_serial (table_of name ps); bits = record { words = ws } }) y

@@ -2,6 +2,7 @@
 use Rattle.std.specs.Prelude.{ℕ, cond, List, Some, None, Ok, Err, Option, Result, nat_lt}
 use Rattle.disk.specs.declared.address.PageAddress.{PageAddress}
 use Rattle.disk.specs.declared.refusal.Refusal.{Refusal}
+use Rattle.disk.specs.declared.refusal.Reason.{Reason}
 use Rattle.disk.specs.declared.refusal.Reason.TheVariants.{NoFreePage, LabelNotFree}
 use Rattle.disk.specs.declared.refusal.Place.TheVariants.{Pack}
 use Rattle.disk.specs.Refusals.{refusal}
@@ -10,6 +11,10 @@ use Rattle.ledger.specs.declared.kept.PackRecord.{PackRecord}
 use Rattle.ledger.specs.Plans.{unready}
 use Rattle.ledger.specs.Searches.{free_label_at, with_taken, with_freed}
 use Rattle.pack.specs.declared.claim.Claim.{Claim}
+
+-- A refusal of the pack itself, at none of its pages.
+abbrev pub pack_refusal : Reason → Refusal
+pack_refusal r = refusal r Pack 0
 
 -- The record after a claim was given back; no pack has a page from 9,744 up.
 abbrev pub returned : PackRecord → ℕ → PackRecord

@@ -13,7 +13,7 @@ fn directory_data() -> [u16; 256]
 {
     let entry = [1034, 32768, 1, 1, 0, 1, 1619, 22867, 17481, 20992, 246];
     let mut words = [0; 256];
-    words[0..11].copy_from_slice(&entry);
+    words[..11].copy_from_slice(&entry);
     words
 }
 
@@ -22,22 +22,6 @@ fn directory_leader_data() -> [u16; 256]
     ensures { result ≡ leader_data 0 0 }
 {
     [0; 256]
-}
-
-// The label of the directory's data page, on page 2: it comes behind page 1.
-fn directory_page_label() -> Label
-    ensures { result ≡ directory_page_label }
-{
-    Label {
-        next: RealAddress { word: 0 },
-        previous: RealAddress { word: 4096 },
-        blank: 0,
-        characters: 512,
-        number: 1,
-        version: 1,
-        serial1: 32768,
-        serial2: 1,
-    }
 }
 
 // The label of the directory's leader, on page 1: page 2 comes next.
@@ -53,6 +37,18 @@ fn directory_leader_label() -> Label
         version: 1,
         serial1: 32768,
         serial2: 1,
+    }
+}
+
+// The label of the directory's data page, on page 2: it comes behind page 1.
+fn directory_page_label() -> Label
+    ensures { result ≡ directory_page_label }
+{
+    Label {
+        next: RealAddress { word: 0 },
+        previous: RealAddress { word: 4096 },
+        number: 1,
+        ..directory_leader_label()
     }
 }
 
@@ -79,7 +75,8 @@ pub(crate) fn write_new<D: Drive>(drive: &mut D) -> Result<(), Refusal>
 
 // The bits of a new pack of so many pages: all are free but the first three.
 pub(crate) fn new_bits(pages: u16) -> BitTable
-    requires { (3 ≤ pages) × (pages ≤ 9744) }
+    requires some { 3 ≤ pages }
+    requires few { pages ≤ 9744 }
     ensures { result.words ≡ free_all (new_free pages) none_free }
 {
     let mut bits = BitTable::none_free();

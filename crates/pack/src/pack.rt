@@ -11,7 +11,7 @@ ghost use Rattle.ledger.specs.Mends.{mending, scavenge_table};
 ghost use Rattle.ledger.specs.Scavenges.{Scavenged, ScavengeValue, ThroughOrOff, ThenMended, NothingLostOnTheWay};
 ghost use Rattle.ledger.specs.News.{NewPack};
 ghost use Rattle.ledger.specs.Searches.{searched, free_label_at};
-ghost use Rattle.pack.specs.Claims.{returned, claim_answer, claim_record, page_claimed, placed_record, surveyed_record};
+ghost use Rattle.pack.specs.Claims.{returned, claim_answer, claim_record, pack_refusal, page_claimed, placed_record, surveyed_record};
 
 use crate::claim::Claim;
 use crate::fresh::{new_bits, write_new};
@@ -22,15 +22,11 @@ use disk::{Drive, Label, PageAddress, Place, Reason, Refusal};
 use ledger::{PackRecord, put_label};
 use survey::{Record, Totals, clear_records, survey};
 
-// The record of a pack that is not ready.
-fn unready(kept: PackRecord) -> PackRecord
-    ensures { result ≡ unready kept }
+// A refusal of the pack itself, at none of its pages.
+fn pack_refusal(reason: Reason) -> Refusal
+    ensures { result ≡ pack_refusal reason }
 {
-    PackRecord {
-        ready: false,
-        highest: kept.highest,
-        bits: BitTable::none_free(),
-    }
+    Refusal::new(reason, Place::Pack, PageAddress { page: 0 })
 }
 
 // A pack in a drive, and what is kept of it in memory.
@@ -46,15 +42,12 @@ impl<D: Drive> Pack<D> {
         ensures drive { result.drive ≡ drive }
         ensures kept { result.kept ≡ first_record }
     {
-        let bits = BitTable::none_free();
-        Pack {
-            drive,
-            kept: PackRecord {
-                ready: false,
-                highest: 0,
-                bits,
-            },
-        }
+        let kept = PackRecord {
+            ready: false,
+            highest: 0,
+            bits: BitTable::none_free(),
+        };
+        Pack { drive, kept }
     }
 
     // Gives the drive back.
@@ -99,15 +92,11 @@ impl<D: Drive> Pack<D> {
         ensures same { D.Reader.medium self.new.drive ≡ D.Reader.medium self.old.drive }
         ensures kept { self.new.kept ≡ surveyed_record self.old.kept result }
     {
-        match survey(&mut self.drive, table) {
-            Ok(totals) => Ok(totals),
-            Err(refusal) => {
-                if refusal.other.is_some() {
-                    self.kept = unready(self.kept);
-                }
-                Err(refusal)
-            }
+        let answer = survey(&mut self.drive, table);
+        if answer.is_err_and(|refusal| refusal.other.is_some()) {
+            self.set_unready();
         }
+        answer
     }
 
     // Makes a new pack: all pages free but the directory SYSDIR on pages 1 and 2.
@@ -119,21 +108,14 @@ impl<D: Drive> Pack<D> {
     {
         self.drive.spin_up();
         let pages = self.drive.cylinders().pages();
-        match write_new(&mut self.drive) {
-            Ok(()) => {
-                let bits = new_bits(pages);
-                self.kept = PackRecord {
-                    ready: true,
-                    highest: 1,
-                    bits,
-                };
-                Ok(())
-            }
-            Err(refusal) => {
-                self.kept = unready(self.kept);
-                Err(refusal)
-            }
-        }
+        let written = write_new(&mut self.drive);
+        self.ready_unless_refused(written)?;
+        self.kept = PackRecord {
+            ready: true,
+            highest: 1,
+            bits: new_bits(pages),
+        };
+        Ok(())
     }
 
     // Puts the pack in order: links every chain both ways, and frees every page that is in none. It
@@ -149,39 +131,32 @@ impl<D: Drive> Pack<D> {
     {
         let pages = self.drive.cylinders().pages();
         if table.len() < pages as usize {
-            return Err(Refusal::new(Reason::TooSmall, Place::Pack, PageAddress { page: 0 }));
+            return Err(pack_refusal(Reason::TooSmall));
         }
         self.drive.spin_up();
-        self.restore(table, pages)
+        self.restore(table)
     }
 
     // Surveys the pack into a table that is long enough, and mends what it found.
-    fn restore(&mut self, table: &mut [Record], pages: u16) -> Result<Totals, Refusal>
-        requires size { length (D.Reader.medium self.old.drive).pages ≡ pages }
-        requires some { 1 ≤ pages }
-        requires few { pages ≤ 9744 }
-        requires room { pages ≤ length table.old }
+    fn restore(&mut self, table: &mut [Record]) -> Result<Totals, Refusal>
+        requires { length (D.Reader.medium self.old.drive).pages ≤ length table.old }
         ensures done { Done (mending (page_named (D.Reader.medium self.old.drive).cylinders) real_address (D.Reader.medium self.old.drive).pages self.old.kept (rivalled (D.Reader.medium self.old.drive).pages)) (D.Reader.medium self.old.drive) self.old.kept result (D.Reader.medium self.new.drive) self.new.kept }
         ensures table { table.new ≡ scavenge_table (page_named (D.Reader.medium self.old.drive).cylinders) (D.Reader.medium self.old.drive).pages table.old result }
     {
+        let pages = self.drive.cylinders().pages();
         let totals = self.survey(table)?;
-        match mend(&mut self.drive, table) {
-            Ok(()) => {
-                let highest = largest_serial(table, pages);
-                let bits = mended_bits(table, pages);
-                self.kept = PackRecord {
-                    ready: true,
-                    highest,
-                    bits,
-                };
-                Ok(totals)
-            }
-            Err(refusal) => {
-                clear_records(table, pages);
-                self.kept = unready(self.kept);
-                Err(refusal)
-            }
+        let mended = mend(&mut self.drive, table);
+        if let Err(refusal) = self.ready_unless_refused(mended) {
+            clear_records(table, pages);
+            return Err(refusal);
         }
+        let found = &table[..pages as usize];
+        self.kept = PackRecord {
+            ready: true,
+            highest: largest_serial(found),
+            bits: mended_bits(found),
+        };
+        Ok(totals)
     }
 
     // Claims the first page from a start on, and round again, whose bit is 0.
@@ -191,14 +166,13 @@ impl<D: Drive> Pack<D> {
         ensures same { D.Reader.medium self.new.drive ≡ D.Reader.medium self.old.drive }
     {
         let pages = self.drive.cylinders().pages();
-        let Some(page) = self.kept.bits.next_free(start, pages) else {
-            return Err(Refusal::new(Reason::NoFreePage, Place::Pack, PageAddress { page: 0 }));
-        };
+        let free = self.kept.bits.next_free(start, pages);
+        let page = free.ok_or(pack_refusal(Reason::NoFreePage))?;
         if self.has_free_label(page) {
             self.kept.bits.take(page);
             Ok(Claim { page })
         } else {
-            self.kept = unready(self.kept);
+            self.set_unready();
             Err(Refusal::new(Reason::LabelNotFree, Place::Pack, page))
         }
     }
@@ -209,13 +183,8 @@ impl<D: Drive> Pack<D> {
         ensures kept { self.new.kept ≡ placed_record self.old.kept result }
     {
         let Claim { page } = claim;
-        match put_label(&mut self.drive, page, label) {
-            Ok(()) => Ok(()),
-            Err(refusal) => {
-                self.kept = unready(self.kept);
-                Err(refusal)
-            }
-        }
+        let written = put_label(&mut self.drive, page, label);
+        self.ready_unless_refused(written)
     }
 
     // Spends a claim unwritten: its page is free again.
@@ -233,9 +202,32 @@ impl<D: Drive> Pack<D> {
         ensures same { D.Reader.medium self.new.drive ≡ D.Reader.medium self.old.drive }
         ensures kept { self.new.kept ≡ self.old.kept }
     {
-        match self.drive.read_label(at) {
-            None => false,
-            Some(label) => label.is_free(),
+        self.drive
+            .read_label(at)
+            .is_some_and(|label| label.is_free())
+    }
+
+    // Hands an answer on. Where it is a refusal, the pack is not ready any more.
+    fn ready_unless_refused(&mut self, answer: Result<(), Refusal>) -> Result<(), Refusal>
+        ensures answer { result ≡ answer }
+        ensures drive { self.new.drive ≡ self.old.drive }
+        ensures kept { self.new.kept ≡ placed_record self.old.kept answer }
+    {
+        if answer.is_err() {
+            self.set_unready();
         }
+        answer
+    }
+
+    // The pack is not ready any more.
+    fn set_unready(&mut self)
+        ensures drive { self.new.drive ≡ self.old.drive }
+        ensures kept { self.new.kept ≡ unready self.old.kept }
+    {
+        self.kept = PackRecord {
+            ready: false,
+            bits: BitTable::none_free(),
+            ..self.kept
+        };
     }
 }

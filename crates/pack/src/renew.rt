@@ -1,4 +1,4 @@
-ghost use Rattle.std.specs.Prelude.{◌≡◌, ◌≤◌, length, take};
+ghost use Rattle.std.specs.Prelude.{◌≡◌, ◌≤◌, length};
 ghost use Rattle.bits.specs.Bits.{none_free, free_all};
 ghost use Rattle.ledger.specs.Mends.{ends_free, serial_if, largest_serial};
 ghost use Rattle.pack.specs.Linking.{freed_in};
@@ -11,31 +11,26 @@ use survey::{Record, Verdict};
 fn ends_free(verdict: Verdict) -> bool
     ensures { result ≡ ends_free verdict }
 {
-    match verdict {
-        Verdict::Free | Verdict::Stray => true,
-        Verdict::Reserved | Verdict::Chained | Verdict::Aside => false,
-    }
+    matches!(verdict, Verdict::Free | Verdict::Stray)
 }
 
-// The bits of a mended pack of so many pages, by the table of the survey before.
-pub(crate) fn mended_bits(table: &[Record], pages: u16) -> BitTable
-    requires room { pages ≤ length table.now }
-    requires some { 1 ≤ pages }
-    requires few { pages ≤ 9744 }
-    ensures { result.words ≡ free_all (freed_in table.now pages) none_free }
+// The bits of a mended pack, by the records of its pages from the survey before.
+pub(crate) fn mended_bits(table: &[Record]) -> BitTable
+    requires { length table.now ≤ 9744 }
+    ensures { result.words ≡ free_all (freed_in table.now (length table.now)) none_free }
 {
     let mut bits = BitTable::none_free();
-    for page in 1..pages {
-        if ends_free(table[page as usize].verdict) {
-            bits.free(PageAddress { page });
+    for (page, found) in table.iter().enumerate() {
+        if ends_free(found.verdict) {
+            bits.free(PageAddress { page: page as u16 });
         }
     }
     bits
 }
 
 // The serial number of a chained page; 0 of any other.
-fn serial_of(found: Record) -> u32
-    ensures { result ≡ serial_if found.verdict found.id }
+fn serial_of(found: &Record) -> u32
+    ensures { result ≡ serial_if found.now.verdict found.now.id }
 {
     match found.verdict {
         Verdict::Chained => found.id.serial(),
@@ -43,14 +38,9 @@ fn serial_of(found: Record) -> u32
     }
 }
 
-// The largest serial number of a chained page among the first records, or 0.
-pub(crate) fn largest_serial(table: &[Record], pages: u16) -> u32
-    requires { pages ≤ length table.now }
-    ensures { result ≡ largest_serial (take pages table.now) }
+// The largest serial number of a chained page in a table, or 0.
+pub(crate) fn largest_serial(table: &[Record]) -> u32
+    ensures { result ≡ largest_serial table.now }
 {
-    let mut largest = 0;
-    for i in (0..pages).rev() {
-        largest = serial_of(table[i as usize]).max(largest);
-    }
-    largest
+    table.iter().map(serial_of).max().unwrap_or(0)
 }

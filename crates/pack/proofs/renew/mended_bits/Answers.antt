@@ -1,10 +1,7 @@
-use Rattle.std.proofs.Common.{◌≡◌, ℕ, ◌-◌, ltb, List, get_or, filter, sym, ap, ◌∙◌, arith}
-use Rattle.std.specs.List.{range_with_len}
+use Rattle.std.proofs.Common.{ℕ, ltb, List, sym, ap, ◌∙◌, arith}
 use Rattle.std.proofs.lemmas.Bool.{cond-true, lt-ltb}
 use Rattle.bits.specs.declared.BitTable.{BitTable}
 use Rattle.bits.specs.Bits.{free_all, freed, none_free}
-use Rattle.survey.specs.Steps.{no_record}
-use Rattle.ledger.specs.Mends.{ends_free}
 use Rattle.pack.proofs.Renewing.{freed_more, freed_left}
 use Rattle.pack.proofs.renew.mended_bits.Goals as goal
 use Rattle.pack.proofs.renew.mended_bits.Goals.{then-ends_free, else-ends_free}
@@ -21,12 +18,7 @@ loop-page-preserved c =
     elim c.if-ends_free.branch [
       | then-ends_free w ↦
           ap (λ (b : BitTable). b.words) w.bits-is ∙ (w.free.ensures ∙ (cond-true (ltb p 9744) (freed ws p) ws (lt-ltb p 9744 (omega arith))
-          ∙ (ap (λ (xs : List ℕ). freed xs p) c.loop-page.invariant ∙ sym (freed_more ts none_free p (omega arith) (sym c.ends_free.ensures ∙ w.if-ends_free.true)))))
+          ∙ (ap (λ (xs : List ℕ). freed xs p) c.loop-page.invariant ∙ sym (freed_more ts none_free p (sym c.ends_free.ensures ∙ w.if-ends_free.true)))))
       | else-ends_free w ↦
-          ap (λ (b : BitTable). b.words) w.bits-is ∙ (c.loop-page.invariant ∙ ap (λ (ps : List ℕ). free_all ps none_free) (sym (freed_left ts p (omega arith) (sym c.ends_free.ensures ∙ w.if-ends_free.false))))
+          ap (λ (b : BitTable). b.words) w.bits-is ∙ (c.loop-page.invariant ∙ sym (freed_left ts none_free p (sym c.ends_free.ensures ∙ w.if-ends_free.false)))
     ]
-
-pub returns : goal.returns
-returns c =
-    let k : c.loop-page.page - 1 ≡ c.args.pages - 1 = omega arith in
-    c.loop-page.invariant ∙ ap (λ (n : ℕ). free_all (filter (λ p. ends_free (get_or c.args.table.now p no_record).verdict) (range_with_len 1 n)) none_free) k
