@@ -90,9 +90,11 @@ pub fn stored_mark(words: &[u16], page: u16) -> Option<u16>
 }
 
 // A label and data differ in their bit of the mark, their place and their type: reads and stores of
-// both in one would take all three and be longer.
+// both in one would take all three and be longer. The reads stay out of line: inlined, they take
+// registers from a survey's search for rivals, which then takes half as long again.
 
 // The label of a page in words of that shape, where its mark says that it can be read.
+#[inline(never)]
 pub fn stored_label(words: &[u16], page: u16) -> Option<Label>
     ensures { result ≡ label_at (pages_if (is_shaped words.now) words.now) page }
 {
@@ -106,6 +108,7 @@ pub fn stored_label(words: &[u16], page: u16) -> Option<Label>
 }
 
 // The data of a page, likewise.
+#[inline(never)]
 pub fn stored_data(words: &[u16], page: u16) -> Option<[u16; 256]>
     ensures { result ≡ data_at (pages_if (is_shaped words.now) words.now) page }
 {

@@ -1,4 +1,4 @@
-use Rattle.std.proofs.Common.{◌≡◌, ℕ, ◌*◌, ◌<◌, ◌++◌, length, get_or, take, drop, set, sym, ap, ◌∙◌, arith, length-drop, rules}
+use Rattle.std.proofs.Common.{◌≡◌, ℕ, ◌*◌, ◌<◌, ◌++◌, length, get_or, take, drop, set, sym, ap, ◌∙◌, arith, length-drop}
 use Rattle.std.specs.Iterator.Adapters.{enumerate_source, enumerate_count}
 use Rattle.std.specs.Slice.Iter.{chunks_exact_rest}
 use Rattle.image.specs.Bytes.{words_of_bytes}
@@ -31,14 +31,13 @@ loop-i-preserved c =
           ∙ ap (λ k. take k (words_of_bytes bs) ++ drop k old) (sym s.2));
     }
 
-pub returns : goal.returns
-returns c =
+pub returns-clause-words : goal.returns-clause-words
+returns-clause-words c =
     let bs = c.args.bytes.now in
     let l = c.loop-i.invariant in
-    let s = c.in-None.ensures.steps in
-    let small : (i : ℕ) → get_or bs i 0 < 256 = λ i. omega (arith, c.type_inv.bytes i) in
-    record {
-      answer = search rules;
-      words = words_all bs c.args.words.now c.loop-i.words (enumerate_count c.loop-i.i-iterator) _ l.words (omega (arith, l.size, ap length l.rest, length-drop (2 * enumerate_count c.loop-i.i-iterator) bs, s.0.1.0)) (omega arith);
-      inverse = bytes_back bs small;
-    }
+    words_all bs c.args.words.now c.loop-i.words (enumerate_count c.loop-i.i-iterator) _ l.words (omega (arith, l.size, ap length l.rest, length-drop (2 * enumerate_count c.loop-i.i-iterator) bs, c.in-None.ensures.steps.0.1.0)) (omega arith)
+
+pub returns-clause-inverse : goal.returns-clause-inverse
+returns-clause-inverse c =
+    let small : (i : ℕ) → get_or c.args.bytes.now i 0 < 256 = λ i. omega (arith, c.type_inv.bytes i) in
+    bytes_back c.args.bytes.now small
