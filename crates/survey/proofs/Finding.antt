@@ -51,35 +51,31 @@ record Pair (ts : List Record) (ls : List PageAddress) (a b : PageAddress) : Typ
   first : (h : ℕ) → i < h → h < j → alike ts ls i h ≡ false
   none_before : (g h : ℕ) → g < i → g < h → h < length ls → alike ts ls g h ≡ false
 
-pair_none : (ts : List Record) (ls : List PageAddress) → pair_of ts ls ≡ None → (g h : ℕ) → g < h → h < length ls → alike ts ls g h ≡ false
-pair_none ts [] e g h u v = absurd (omega arith)
-pair_none ts (x ∷ xs) e g h u v = go (find (has_id ts (id_in ts x)) xs) refl (λ w m n o p. pair_none ts xs w m n o p) e g h u v
-  where
-    go : (o : Option PageAddress) → find (has_id ts (id_in ts x)) xs ≡ o → (pair_of ts xs ≡ None → (m n : ℕ) → m < n → n < length xs → alike ts xs m n ≡ false) → pair_or x (pair_of ts xs) o ≡ None → (m n : ℕ) → m < n → n < suc (length xs) → alike ts (x ∷ xs) m n ≡ false
-    go (Some b) f again w m n p q = never (Some (x, b)) (x, b) w refl
-    go None f again w m zero p q = absurd (omega arith)
-    go None f again w zero (suc n) p q = find_none (has_id ts (id_in ts x)) xs (record { page = 0 }) f n (omega arith)
-    go None f again w (suc m) (suc n) p q = again w m n (omega arith) (omega arith)
+-- What an answer of the search for them says.
+abbrev Paired : List Record → List PageAddress → Option (PageAddress × PageAddress) → Type 0
+Paired ts ls None = (g h : ℕ) → g < h → h < length ls → alike ts ls g h ≡ false
+Paired ts ls (Some (a, b)) = Pair ts ls a b
 
-pair_some : (ts : List Record) (ls : List PageAddress) (a b : PageAddress) → pair_of ts ls ≡ Some (a, b) → Pair ts ls a b
-pair_some ts [] a b e = never None (a, b) refl e
-pair_some ts (x ∷ xs) a b e = go (find (has_id ts (id_in ts x)) xs) refl (λ w. pair_some ts xs a b w) e
+paired : (ts : List Record) (ls : List PageAddress) → Paired ts ls (pair_of ts ls)
+paired ts [] = λ g h u v. absurd (omega arith)
+paired ts (x ∷ xs) = go (find (has_id ts (id_in ts x)) xs) refl (pair_of ts xs) (paired ts xs)
   where
-    go : (o : Option PageAddress) → find (has_id ts (id_in ts x)) xs ≡ o → (pair_of ts xs ≡ Some (a, b) → Pair ts xs a b) → pair_or x (pair_of ts xs) o ≡ Some (a, b) → Pair ts (x ∷ xs) a b
-    go (Some c) f again w =
-        let t = has_id ts (id_in ts x) in
-        let d : PageAddress = record { page = 0 } in
-        let p : ◌≡◌ {A = PageAddress × PageAddress} (x, c) (a, b) = cc in
-        let g : slice_get xs (position_or_len t xs) ≡ Some c = sym (find_at t xs) ∙ f in
-        let l = slice_get_within xs (position_or_len t xs) c g in
+    none : find (has_id ts (id_in ts x)) xs ≡ None → (h : ℕ) → h < length xs → alike ts (x ∷ xs) 0 (suc h) ≡ false
+    none f h l = find_none (has_id ts (id_in ts x)) xs (record { page = 0 }) f h l
+
+    go : (o : Option PageAddress) → find (has_id ts (id_in ts x)) xs ≡ o → (r : Option (PageAddress × PageAddress)) → Paired ts xs r → Paired ts (x ∷ xs) (pair_or x r o)
+    go (Some b) f r p =
+        let j = position_or_len (has_id ts (id_in ts x)) xs in
+        let at_j : slice_get xs j ≡ Some b = sym (find_at (has_id ts (id_in ts x)) xs) ∙ f in
+        let inside = slice_get_within xs j b at_j in
         record {
           i = 0;
-          j = suc (position_or_len t xs);
-          is_a = ap (λ (q : PageAddress × PageAddress). q.0) p;
-          is_b = get_or_from_slice_get xs (position_or_len t xs) c d g ∙ ap (λ (q : PageAddress × PageAddress). q.1) p;
+          j = suc j;
+          is_a = refl;
+          is_b = get_or_from_slice_get xs j b (record { page = 0 }) at_j;
           after = omega arith;
           inside = omega arith;
-          like = passes_at_first t xs d l;
+          like = passes_at_first (has_id ts (id_in ts x)) xs (record { page = 0 }) inside;
           first = near;
           none_before = λ g h u v k. absurd (omega arith);
         }
@@ -87,28 +83,32 @@ pair_some ts (x ∷ xs) a b e = go (find (has_id ts (id_in ts x)) xs) refl (λ w
         near : (h : ℕ) → 0 < h → h < suc (position_or_len (has_id ts (id_in ts x)) xs) → alike ts (x ∷ xs) 0 h ≡ false
         near zero u v = absurd (omega arith)
         near (suc h) u v = fails_before_first (has_id ts (id_in ts x)) xs h (record { page = 0 }) (omega arith)
-    go None f again w =
-        let r = again w in
-        record {
-          i = suc r.i;
-          j = suc r.j;
-          is_a = r.is_a;
-          is_b = r.is_b;
-          after = let h = r.after in omega arith;
-          inside = let h = r.inside in omega arith;
-          like = r.like;
-          first = near;
-          none_before = before;
-        }
+    go None f None p = before
       where
-        near : (h : ℕ) → suc (again w).i < h → h < suc (again w).j → alike ts (x ∷ xs) (suc (again w).i) h ≡ false
+        before : (g h : ℕ) → g < h → h < suc (length xs) → alike ts (x ∷ xs) g h ≡ false
+        before g zero u v = absurd (omega arith)
+        before zero (suc h) u v = none f h (omega arith)
+        before (suc g) (suc h) u v = p g h (omega arith) (omega arith)
+    go None f (Some (a, b)) p = record {
+      i = suc p.i;
+      j = suc p.j;
+      is_a = p.is_a;
+      is_b = p.is_b;
+      after = let h = p.after in omega arith;
+      inside = let h = p.inside in omega arith;
+      like = p.like;
+      first = near;
+      none_before = before;
+    }
+      where
+        near : (h : ℕ) → suc p.i < h → h < suc p.j → alike ts (x ∷ xs) (suc p.i) h ≡ false
         near zero u v = absurd (omega arith)
-        near (suc h) u v = (again w).first h (omega arith) (omega arith)
+        near (suc h) u v = p.first h (omega arith) (omega arith)
 
-        before : (g h : ℕ) → g < suc (again w).i → g < h → h < suc (length xs) → alike ts (x ∷ xs) g h ≡ false
+        before : (g h : ℕ) → g < suc p.i → g < h → h < suc (length xs) → alike ts (x ∷ xs) g h ≡ false
         before g zero u v k = absurd (omega arith)
-        before zero (suc h) u v k = find_none (has_id ts (id_in ts x)) xs (record { page = 0 }) f h (omega arith)
-        before (suc g) (suc h) u v k = (again w).none_before g h (omega arith) (omega arith) (omega arith)
+        before zero (suc h) u v k = none f h (omega arith)
+        before (suc g) (suc h) u v k = p.none_before g h (omega arith) (omega arith) (omega arith)
 
 -- The record that the scan gives a leader.
 leader_record : (ps : List Page) (q : ℕ) → is_leader ps q ≡ true → (k : Leader ps q) → first_record ps q ≡ filed Chained q k.label
@@ -181,7 +181,7 @@ module _ (ps : List Page) (ts : List Record) (ls : List PageAddress) (s : Scanne
       has u = there (place (rivalled ps) (rivalled_is ps u).one)
         where
           there : (g : ℕ) × (g < length ls) × (nth ls g ≡ rivalled ps) → ⊥
-          there (g, v, z) = none_rival (length ls) (λ x y h. pair_none ts ls (sym f ∙ e) x y) g v v (rival_of ps (rivalled ps)) (subst (λ (x : ℕ). Rival ps x (rival_of ps (rivalled ps))) (sym z) (rivalled_is ps u))
+          there (g, v, z) = none_rival (length ls) (λ x y h. subst (Paired ts ls) (sym f ∙ e) (paired ts ls) x y) g v v (rival_of ps (rivalled ps)) (subst (λ (x : ℕ). Rival ps x (rival_of ps (rivalled ps))) (sym z) (rivalled_is ps u))
 
   pub pair_lowest : (o : Option (PageAddress × PageAddress)) (a b : PageAddress) → o ≡ pair_of ts ls → o ≡ Some (a, b) → Lowest ps a.page b.page
   unfolding rivalled
@@ -192,7 +192,7 @@ module _ (ps : List Page) (ts : List Record) (ls : List PageAddress) (s : Scanne
   }
     where
       p : Pair ts ls a b
-      p = pair_some ts ls a b (sym f ∙ e)
+      p = subst (Paired ts ls) (sym f ∙ e) (paired ts ls)
 
       i<k : p.i < length ls
       i<k = let x = p.after in let y = p.inside in omega arith

@@ -16,7 +16,7 @@ loop-page-preserved g c =
     let listed = λ (ls : List PageAddress). Listed ps (p + 1) ls in
     let read : c.read_label-label.result ≡ label_at ps p = c.read_label-label.ensures.answer ∙ ap (λ (m : Medium). label_at m.pages p) same in
     let lead : c.is_leader-leading.result ≡ is_leader ps p = c.is_leader-leading.ensures ∙ ap (λ (o : Option Label). ltb 0 p && leads o) read in
-    let x : c.judge.result ≡ first_record ps p = c.judge.ensures ∙ rw (lead, read) in (
+    let x : c.judge.result ≡ first_record ps p = rw (lead, read) at c.judge.ensures in (
       c.read_label-label.ensures.same ∙ same,
       scanned_more ps p c.loop-page.table c.judge.result (omega arith) x c.loop-page.invariant.1,
       elim c.if-leading.branch [
