@@ -24,7 +24,7 @@ fn check_case(rt: &impl Abort, heap: Global, case: Case) -> Result<(), Fail> {
     let answer = survey(&mut ImageReader::new(&words), &mut table);
     let refusal = Refusal::of_two(Reason::Rivals, Place::Pack, at(case.one), at(case.two));
     assert_eq!(rt; answer, Err(refusal));
-    for record in &table[..24] {
+    for record in table.iter().take(24) {
         assert_eq!(rt; *record, Record::bare(Verdict::Reserved));
     }
     assert_eq!(rt; (table[24], table[25]), (junk(), junk()));
