@@ -107,11 +107,11 @@ length_pages false ws t = ap length (pages_off false ws refl) ∙ (length-replic
 
 -- What a read finds: nothing in words that are not taken for an image, past the last page, or where the
 -- mark says so.
-shut : (ws : List ℕ) (p : ℕ) → get_or (replicate 24 unreadable) p unreadable ≡ unreadable
-shut ws p = elim (cases_lt p 24) [ inl l ↦ get_or-replicate 24 p unreadable unreadable l | inr l ↦ get_or_past (replicate 24 unreadable) p unreadable (omega (arith, length-replicate 24 unreadable)) ]
+shut : (p : ℕ) → get_or (replicate 24 unreadable) p unreadable ≡ unreadable
+shut p = elim (cases_lt p 24) [ inl l ↦ get_or-replicate 24 p unreadable unreadable l | inr l ↦ get_or_past (replicate 24 unreadable) p unreadable (omega (arith, length-replicate 24 unreadable)) ]
 
 pub unread : (b : Bool) (ws : List ℕ) (p : ℕ) → b ≡ false → get_or (pages_if b ws) p unreadable ≡ unreadable
-unread b ws p h = ap (λ ps. get_or ps p unreadable) (pages_off b ws h) ∙ shut ws p
+unread b ws p h = ap (λ ps. get_or ps p unreadable) (pages_off b ws h) ∙ shut p
 
 pub no_page : (ws : List ℕ) (p : ℕ) → has_page ws p ≡ false → get_or (pages_if (is_shaped ws) ws) p unreadable ≡ unreadable
 no_page ws p h = go (is_shaped ws) (ltb p (count ws)) refl refl h
