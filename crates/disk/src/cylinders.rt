@@ -8,7 +8,7 @@ pub struct Cylinders {
 }
 
 impl Cylinders {
-    // None for a number that no pack has.
+    // None for a number that no pack has; `try_from` says which one it was.
     pub fn new(count: u16) -> Option<Cylinders>
         ensures { MatchOption result (1 ≤ count → count ≤ 406 → ⊥) (λ c. c.count ≡ count) }
     {

@@ -81,6 +81,7 @@ impl Label {
         }
     }
 
+    // As `From` does, under a name that says so.
     pub fn from_words(words: [u16; 8]) -> Label
         ensures { result ≡ label_of words }
     {
@@ -106,6 +107,7 @@ impl Label {
         }
     }
 
+    // As `From` does, likewise.
     pub fn to_words(self) -> [u16; 8]
         ensures { result ≡ words_of self }
     {

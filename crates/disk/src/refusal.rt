@@ -26,6 +26,7 @@ pub enum Reason {
 }
 
 impl Reason {
+    // The enum's own number: its cast is the conversion.
     pub fn number(self) -> u16
         ensures { result ≡ number self }
     {
@@ -68,6 +69,7 @@ pub enum Place {
 }
 
 impl Place {
+    // What the place prints as, for whoever needs it as text.
     pub fn name(self) -> &'static str
         ensures { result.now ≡ place_name self }
     {

@@ -1,4 +1,5 @@
-// The helpers that `trials` has too stand here once more: its own are of its tests, which no crate can import.
+// Some helpers stand here as in `trials`, whose own no crate can import, being of its tests. A crate for
+// both would owe contracts and edits for what only tests call, which is no plainer.
 use disk::{FileId, PageAddress};
 use std::alloc::{AllocError, Global};
 use survey::{Record, Totals, Verdict};

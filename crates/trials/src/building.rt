@@ -64,6 +64,8 @@ pub fn free_pack(heap: Global, pages: u16) -> Result<Vec<u16>, AllocError> {
     Ok(words)
 }
 
+// Whether words are the same: a function, since a Vec, an array and what a drive gives back are of other
+// types, and the two sides of `==` have to be of one.
 pub fn is_same(one: &[u16], two: &[u16]) -> bool {
     one == two
 }

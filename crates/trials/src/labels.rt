@@ -42,6 +42,7 @@ fn the_free_label(rt: HostRuntime) {
 
 #[test]
 fn one_other_word_and_a_label_is_not_free(rt: HostRuntime) {
+    // by its place: which of the eight words is another one is the case
     for k in 0..8 {
         let mut words = Label::free().to_words();
         words[k] ^= 1;

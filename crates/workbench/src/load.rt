@@ -44,12 +44,15 @@ fn flaw(words: &[u16]) -> Flaw {
     if third != first {
         return Flaw::ThirdCount { first, third };
     }
-    for (page, mark) in words[3 + 264 * n..].iter().copied().enumerate() {
-        if mark > 3 {
-            return Flaw::Mark { page, mark };
-        }
-    }
-    Flaw::Size { pages: first }
+    words[3 + 264 * n..]
+        .iter()
+        .copied()
+        .enumerate()
+        .find(|(_, mark)| *mark > 3)
+        .map_or(
+            Flaw::Size { pages: first },
+            |(page, mark)| Flaw::Mark { page, mark },
+        )
 }
 
 // The words of a file, not yet opened.
@@ -63,13 +66,11 @@ fn read_words(rt: &HostRuntime, path: &str) -> Result<Vec<u16>, Problem> {
     }
     let bytes = fs::read(rt, path)?;
     let mut words = vec![in rt.alloc(); 0u16; bytes.len() / 2]?;
-    match bytes_to_words(bytes.as_slice(), words.as_mut_slice()) {
-        Ok(_) => Ok(words),
-        Err(refusal) => {
-            let flaw = Flaw::Odd { bytes: bytes.len() };
-            Err(Problem::NoImage(refusal, flaw))
-        }
-    }
+    bytes_to_words(bytes.as_slice(), words.as_mut_slice()).map_err(|refusal| {
+        let flaw = Flaw::Odd { bytes: bytes.len() };
+        Problem::NoImage(refusal, flaw)
+    })?;
+    Ok(words)
 }
 
 // Reads the image of a pack.

@@ -28,42 +28,9 @@ use usage::USAGE;
 #[derive(Drop)]
 struct Failed;
 
-// What is to be told of an image.
-#[derive(Clone, Copy)]
-enum Command {
-    Pages,
-    Survey,
-    Table,
-    Map(Option<u16>),
-}
-
 // The words of the command line, without the program's own name.
 fn asked(rt: &HostRuntime) -> Result<Vec<String>, Problem> {
-    let mut all = Vec::new(rt.alloc());
-    for word in env::args(rt)?.skip(1) {
-        all.push(word)?;
-    }
-    Ok(all)
-}
-
-// The command of one word and an image, if there is such a one.
-fn command_of(word: &str) -> Option<Command> {
-    match word {
-        "pages" => Some(Command::Pages),
-        "survey" => Some(Command::Survey),
-        "table" => Some(Command::Table),
-        "map" => Some(Command::Map(None)),
-        _ => None,
-    }
-}
-
-fn run(rt: &HostRuntime, command: Command, path: &str) -> Result<(), Problem> {
-    match command {
-        Command::Pages => show_pages(rt, path),
-        Command::Survey => show_survey(rt, path),
-        Command::Table => show_table(rt, path),
-        Command::Map(file) => show_map(rt, path, file),
-    }
+    Ok(env::args(rt)?.skip(1).collect(rt.alloc())?)
 }
 
 // Says in one line why work on a file failed, if it did.
@@ -74,11 +41,6 @@ fn told<T: Drop>(rt: &HostRuntime, outcome: Result<T, Problem>, path: &str) -> R
     })
 }
 
-// Runs a command, and says in one line why it failed, if it did.
-fn attempt(rt: &HostRuntime, command: Command, path: &str) -> Result<(), Failed> {
-    told(rt, run(rt, command, path), path)
-}
-
 // The command line is none that the program knows.
 fn unknown(rt: &HostRuntime) -> Result<(), Failed> {
     let _ = rt.eprint(USAGE);
@@ -87,29 +49,31 @@ fn unknown(rt: &HostRuntime) -> Result<(), Failed> {
 
 // Obeys a command that tells of an image.
 fn obey_tell(rt: &HostRuntime, words: &[String]) -> Result<(), Failed> {
-    let command = match words {
-        [word, _] => command_of(word.as_str()),
-        [word, _, option, page] if word.as_str() == "map" && option.as_str() == "--file" => {
-            page.as_str()
-                .parse()
-                .ok()
-                .map(|page| Command::Map(Some(page)))
-        }
-        _ => None,
+    let [word, image, options @ ..] = words else {
+        return unknown(rt);
     };
-    match (command, words.get(1)) {
-        (Some(command), Some(path)) => attempt(rt, command, path.as_str()),
-        _ => unknown(rt),
-    }
+    let path = image.as_str();
+    let outcome = match (word.as_str(), options) {
+        ("pages", []) => show_pages(rt, path),
+        ("survey", []) => show_survey(rt, path),
+        ("table", []) => show_table(rt, path),
+        ("map", []) => show_map(rt, path, None),
+        ("map", [option, page]) if option.as_str() == "--file" => {
+            let Ok(page) = page.as_str().parse() else {
+                return unknown(rt);
+            };
+            show_map(rt, path, Some(page))
+        }
+        _ => return unknown(rt),
+    };
+    told(rt, outcome, path)
 }
 
 // Obeys `format CYLINDERS OUT [--force]`.
 fn obey_format(rt: &HostRuntime, count: &str, options: &[String]) -> Result<(), Failed> {
-    let (Ok(count), Some(output)) = (count.parse::<u16>(), output_of(options)) else {
-        return unknown(rt);
-    };
-    match output.target() {
-        Some(target) if !output.dry_run => { told(rt, make_pack(rt, count, target), target.path) }
+    let target = output_of(options).and_then(|output| output.to_write());
+    match (count.parse(), target) {
+        (Ok(count), Some(target)) => told(rt, make_pack(rt, count, target), target.path),
         _ => unknown(rt),
     }
 }
@@ -135,16 +99,16 @@ fn put_away(
 
 // Scavenges an image, and writes the mended one where that is asked for.
 fn scavenge(rt: &HostRuntime, image: &str, output: Output<'_>) -> Result<(), Failed> {
-    if let Some(target) = output.target() {
+    if let Some(target) = output.named() {
         told(rt, check_other(rt, image, target), target.path)?;
     }
     let words = told(rt, mend_image(rt, image), image)?;
-    match output.target() {
-        Some(target) if !output.dry_run => {
+    match output.to_write() {
+        Some(target) => {
             let stored = put_away(rt, image, target, words.as_slice());
             told(rt, stored, target.path)
         }
-        _ => {
+        None => {
             let _ = rt.println("dry run: nothing is written");
             Ok(())
         }
@@ -154,7 +118,7 @@ fn scavenge(rt: &HostRuntime, image: &str, output: Output<'_>) -> Result<(), Fai
 // Obeys `scavenge IMAGE OUT [--force] [--dry-run]`; a dry run needs no OUT.
 fn obey_scavenge(rt: &HostRuntime, image: &str, options: &[String]) -> Result<(), Failed> {
     match output_of(options) {
-        Some(output) if !image.starts_with("--") && (output.target().is_some() || output.dry_run) =>
+        Some(output) if !image.starts_with("--") && (output.named().is_some() || output.is_dry()) =>
             { scavenge(rt, image, output) }
         _ => unknown(rt),
     }

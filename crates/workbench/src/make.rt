@@ -10,14 +10,10 @@ fn blank_words(heap: Global, cylinders: Cylinders) -> Result<Vec<u16>, AllocErro
     let pages = cylinders.pages();
     let n = pages as usize;
     let mut words = vec![in heap; 0u16; 3 + 265 * n]?;
-    if let Some(first) = words.get_mut(0) {
-        *first = pages;
-    }
-    if let Some(second) = words.get_mut(1 + 8 * n) {
-        *second = pages;
-    }
-    if let Some(third) = words.get_mut(2 + 264 * n) {
-        *third = pages;
+    for count in [0, 1 + 8 * n, 2 + 264 * n] {
+        if let Some(word) = words.get_mut(count) {
+            *word = pages;
+        }
     }
     Ok(words)
 }

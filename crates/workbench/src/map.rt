@@ -24,29 +24,24 @@ fn is_leader(record: &Record) -> bool {
     record.verdict == Verdict::Chained && record.number == 0
 }
 
-// For each page, which file in the order of their leaders it would begin.
-fn file_orders(heap: Global, records: &[Record]) -> Result<Vec<usize>, AllocError> {
-    let mut orders = Vec::new(heap);
-    let mut next = 0usize;
-    for record in records {
-        orders.push(next)?;
-        if is_leader(record) {
-            next = next.saturating_add(1);
-        }
-    }
-    Ok(orders)
+// The leaders of the files, in their order.
+fn leaders(heap: Global, records: &[Record]) -> Result<Vec<u16>, AllocError> {
+    records
+        .iter()
+        .filter(|record| is_leader(record))
+        .map(|record| record.leader.page)
+        .collect(heap)
 }
 
 // The character of a page on the map of all files.
-fn mark(record: &Record, orders: &[usize]) -> char {
-    let order = orders
-        .get(record.leader.page as usize)
-        .copied()
-        .unwrap_or(0);
+fn mark(record: &Record, leaders: &[u16]) -> char {
     match record.verdict {
         Verdict::Reserved => '0',
         Verdict::Free => '.',
-        Verdict::Chained => letter(if record.number == 0 { b'A' } else { b'a' }, order),
+        Verdict::Chained => {
+            let file = leaders.binary_search(&record.leader.page).unwrap_or(0);
+            letter(if record.number == 0 { b'A' } else { b'a' }, file)
+        }
         Verdict::Stray => '?',
         Verdict::Aside => '!',
     }
@@ -85,12 +80,12 @@ fn rows<F: Fn(&Record) -> char>(
 
 // The pages of a file in their order.
 fn file_line(heap: Global, records: &[Record], leader: u16) -> Result<String, AllocError> {
-    let mut pages = Vec::new(heap);
-    for (page, record) in records.iter().enumerate() {
-        if record.verdict == Verdict::Chained && record.leader.page == leader {
-            pages.push((record.number, page))?;
-        }
-    }
+    let mut pages: Vec<(u16, usize)> = records
+        .iter()
+        .enumerate()
+        .filter(|(_, record)| record.verdict == Verdict::Chained && record.leader.page == leader)
+        .map(|(page, record)| (record.number, page))
+        .collect(heap)?;
     pages.sort_unstable();
     let mut text = format!(in heap; "pages of the file at {leader}, in order:")?;
     for (_, page) in &pages {
@@ -108,12 +103,12 @@ fn leader_of(records: &[Record], page: u16) -> Option<u16> {
 
 fn show_all(rt: &HostRuntime, records: &[Record]) -> Result<(), Problem> {
     let heap = rt.alloc();
-    let orders = file_orders(heap, records)?;
+    let leaders = leaders(heap, records)?;
     rt.println("0 reserved, . free, ? stray, ! label unreadable;")?;
     rt.println(
         "A leader and its pages a, the next file's B and b, and so on, after Z and z again A and a",
     )?;
-    rt.print(rows(heap, records, |record| mark(record, orders.as_slice()))?)?;
+    rt.print(rows(heap, records, |record| mark(record, leaders.as_slice()))?)?;
     Ok(())
 }
 

@@ -1,19 +1,36 @@
 use crate::store::{Replace, Target};
 
+// Whether an image is written, or only what would be is told.
+#[derive(Clone, Copy, PartialEq, Eq)]
+enum Run {
+    Real,
+    Dry,
+}
+
 // What the words behind a command say of its output.
 #[derive(Clone, Copy)]
 pub struct Output<'a> {
     path: Option<&'a str>,
     replace: Replace,
-    pub dry_run: bool,
+    run: Run,
 }
 
 impl<'a> Output<'a> {
     // The file that is named, if one is.
-    pub fn target(self) -> Option<Target<'a>> {
+    pub fn named(self) -> Option<Target<'a>> {
         let path = self.path?;
         let replace = self.replace;
         Some(Target { path, replace })
+    }
+
+    // The file that is to be written; none in a dry run.
+    pub fn to_write(self) -> Option<Target<'a>> {
+        self.named().filter(|_| self.run == Run::Real)
+    }
+
+    // Whether nothing is to be written.
+    pub fn is_dry(self) -> bool {
+        self.run == Run::Dry
     }
 }
 
@@ -22,12 +39,12 @@ pub fn output_of(words: &[String]) -> Option<Output<'_>> {
     let mut output = Output {
         path: None,
         replace: Replace::Never,
-        dry_run: false,
+        run: Run::Real,
     };
     for word in words {
         match word.as_str() {
             "--force" => output.replace = Replace::Allowed,
-            "--dry-run" => output.dry_run = true,
+            "--dry-run" => output.run = Run::Dry,
             path => {
                 if output.path.is_some() || path.starts_with("--") {
                     return None;

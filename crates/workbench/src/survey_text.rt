@@ -26,10 +26,10 @@ pub fn find_records<R: Reader>(
     let n = reader.cylinders().pages();
     steps.say(rt, format!(in heap; "surveying {n} pages")?.as_str())?;
     let mut records = vec![in heap; Record::bare(Verdict::Reserved); n as usize]?;
-    match survey(reader, records.as_mut_slice()) {
-        Ok(totals) => Ok((records, totals)),
-        Err(refusal) => Err(explained(reader, refusal)),
-    }
+    let totals = survey(reader, records.as_mut_slice()).map_err(|refusal| explained(
+        reader, refusal,
+    ))?;
+    Ok((records, totals))
 }
 
 // How many pages have each verdict, in one line.
