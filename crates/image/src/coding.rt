@@ -5,6 +5,7 @@ ghost use Rattle.image.specs.Bytes.{words_of_bytes, bytes_of_words, words_made, 
 
 use disk::{PageAddress, Place, Reason, Refusal};
 
+// A refusal of the words or bytes of an image.
 pub(crate) fn refused(reason: Reason) -> Refusal
     ensures { result ≡ refusal reason Image 0 }
 {
