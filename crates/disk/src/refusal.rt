@@ -1,5 +1,5 @@
 ghost use Rattle.std.specs.Prelude.{◌≡◌, Some, None};
-ghost use Rattle.disk.specs.Refusals.{number, place_name, bad_parameter, meaning, refusal, refusal_of_two, told};
+ghost use Rattle.disk.specs.Refusals.{number, place_name, bad_parameter, meaning, refusal, refusal_of_two, hardware, told};
 
 use crate::address::PageAddress;
 use std::fmt;
@@ -134,6 +134,13 @@ impl Refusal {
             page,
             other: Some(other),
         }
+    }
+
+    // What a drive answers to a write to that page that it refuses.
+    pub fn hardware(page: PageAddress) -> Refusal
+        ensures { result ≡ hardware page.page }
+    {
+        Refusal::new(Reason::Hardware, Place::Drive, page)
     }
 
     pub fn number(self) -> u16

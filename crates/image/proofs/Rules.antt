@@ -4,7 +4,8 @@ use Rattle.std.proofs.lemmas.Bool.{and_parts, and_from, ltb-true, ltb-false, lt-
 use Rattle.disk.specs.declared.cylinders.Cylinders.{Cylinders}
 use Rattle.disk.specs.declared.refusal.Refusal.{Refusal}
 use Rattle.disk.specs.Refusals.{hardware}
-use Rattle.disk.specs.Media.{Page, Medium, Part, put, a_label, a_data, Write, after, Goes, Written, Torn}
+use Rattle.disk.specs.Media.{Medium, put, Write, after, Goes, Written}
+use Rattle.disk.proofs.Tearing.{torn_old}
 use Rattle.image.specs.Images.{count, mark, is_shaped, is_image, pages_if, cylinders_if, medium_if, image_medium, has_page, stored, stored_if, goes_if, stays_if, goes_through, stays_on, ExactlyIf, Exactly, Found}
 use Rattle.image.proofs.Tables.{image_shaped, mark_small, count_is, pages_on, length_pages, found_same}
 use Rattle.image.proofs.Changes.{Fits, put_part}
@@ -18,10 +19,6 @@ pub record Kind (T S : List ℕ → Bool) (takes : Bool) (ws : List ℕ) (p : �
   pub not_steady : takes ≡ false → S ws ≡ false
   pub same_taken : (vs : List ℕ) → is_shaped vs ≡ is_shaped ws → is_image vs ≡ is_image ws → T vs ≡ T ws
   pub same_steady : (vs : List ℕ) → is_shaped vs ≡ is_shaped ws → is_image vs ≡ is_image ws → S vs ≡ S ws
-
-torn_none : (ps : List Page) (p : ℕ) (x : Part) → Torn ps p x ps
-torn_none ps p (a_label l) = inl refl
-torn_none ps p (a_data d) = inl (inl refl)
 
 -- The medium after a write that goes through.
 put_medium : (T S : List ℕ → Bool) (w : Write) (takes on : Bool) (ws : List ℕ) → Kind T S takes ws w.page → Fits w.part → takes ≡ true → w.page < count ws → medium_if (T (stored ws w.page w.part)) (S (stored ws w.page w.part)) on (stored ws w.page w.part) ≡ after w (medium_if (T ws) (S ws) on ws)
@@ -57,7 +54,7 @@ rule T S w takes on ws r later vs k f e = go on (ltb w.page (24 * cylinders_if (
         (refl, inl (record { why = inl (omega (arith, length_pages (T ws) ws k.shaped, ltb-false w.page (24 * cylinders_if (T ws) ws) y)); same = refl }))
     go true true false x y z a n s =
         by_value w _ _ _ r _ a (same T S later false vs ws s n)
-        (refl, inr (record { goes = goes x y; not_steady = k.not_steady z; torn = torn_none (pages_if (T ws) ws) w.page w.part; is = refl }))
+        (refl, inr (record { goes = goes x y; not_steady = k.not_steady z; torn = torn_old (pages_if (T ws) ws) (pages_if (T ws) ws) w.page w.part refl; is = refl }))
     go true true true x y z a n s =
         by_value w _ _ _ r _ a (same T S later on vs (stored ws w.page w.part) (s ∙ sym x) n)
         (record { goes = goes x y; is = put_medium T S w takes on ws k f z (omega (arith, count_is (T ws) ws (k.taken z) (k.shaped (k.taken z)), ltb-true w.page (24 * cylinders_if (T ws) ws) y)) })

@@ -1,5 +1,6 @@
 -- Words of an image's shape by their parts, and what a read finds in them.
 use Rattle.std.proofs.Common.{◌≡◌, ℕ, zero, suc, ◌+◌, ◌-◌, ◌*◌, ◌/◌, ◌%◌, ◌<◌, ◌≤◌, Bool, true, false, ◌&&◌, eqb, ltb, leb, List, [], ◌∷◌, length, get_or, take, drop, replicate, Some, None, Option, MatchOption, sym, refl, ap, ◌∙◌, subst, inl, inr, add-zero, lit<, arith}
+use Rattle.std.specs.Bool.{then_some}
 use Rattle.std.proofs.lemmas.List.FromFn.{length-map-range_with_len, get_or-map-range_with_len}
 use Rattle.std.proofs.lemmas.List.{get_or_past, get_or-replicate, length-replicate, get_or-take, get_or-drop, take_all, length-drop}
 use Rattle.std.proofs.lemmas.Bool.{and_parts, and_from, eqb-true, eq-eqb, ne_eqb, leb-true, le-leb, ltb-false, lt-ltb, le-ltb, cases_lt, cond-true, cond-false, and_left, true≢false}
@@ -169,13 +170,23 @@ pub size_found : (b : Bool) (ws : List ℕ) (o : Option Cylinders) (r : Cylinder
 size_found b ws None r f e = e ∙ sym (cylinders_off b ws f)
 size_found b ws (Some c) r f e = ap (λ x. x.count) e ∙ cylinders_on b ws c.count f.0 f.1
 
-pub none_read : (b : Bool) (ws : List ℕ) (o : Option Cylinders) (p : ℕ) → Found b ws o → o ≡ None → get_or (pages_if b ws) p unreadable ≡ unreadable
-none_read b ws None p f e = unread b ws p f
-none_read b ws (Some c) p f e = cc
+pub no_label : (ws : List ℕ) (o : Option Cylinders) (p : ℕ) → Found (is_image ws) ws o → o ≡ None → None ≡ label_at (pages_if (is_image ws) ws) p
+no_label ws None p f e = sym (ap (λ x. x.label) (unread (is_image ws) ws p f))
+no_label ws (Some c) p f e = cc
 
-pub read_is : (b : Bool) (ws : List ℕ) (o : Option Cylinders) (c : Cylinders) → (b ≡ true → is_shaped ws ≡ true) → Found b ws o → o ≡ Some c → pages_if (is_shaped ws) ws ≡ pages_if b ws
-read_is b ws None c s f e = cc
-read_is b ws (Some d) c s f e = ap (λ t. pages_if t ws) (s f.0 ∙ sym f.0)
+pub no_data : (ws : List ℕ) (o : Option Cylinders) (p : ℕ) → Found (is_image ws) ws o → o ≡ None → None ≡ data_at (pages_if (is_image ws) ws) p
+no_data ws None p f e = sym (ap (λ x. x.words) (unread (is_image ws) ws p f))
+no_data ws (Some c) p f e = cc
+
+pub image_read : (ws : List ℕ) (o : Option Cylinders) (c : Cylinders) → Found (is_image ws) ws o → o ≡ Some c → pages_if (is_shaped ws) ws ≡ pages_if (is_image ws) ws
+image_read ws None c f e = cc
+image_read ws (Some d) c f e = ap (λ t. pages_if t ws) (image_shaped ws f.0 ∙ sym f.0)
+
+pub ruleset reads = (no_label, no_data, image_read)
+
+pub found_fine : (ws : List ℕ) (b : Bool) (c : Cylinders) (o : Option Cylinders) → is_image ws ≡ b → 24 * c.count ≡ count ws → o ≡ then_some b c → Found (is_image ws) ws o
+found_fine ws true c o i n e = subst (λ (x : Option Cylinders). Found (is_image ws) ws x) (sym e) (i, n)
+found_fine ws false c o i n e = subst (λ (x : Option Cylinders). Found (is_image ws) ws x) (sym e) i
 
 pub found_same : (b d : Bool) (ws vs : List ℕ) (o : Option Cylinders) → d ≡ b → count vs ≡ count ws → Found b ws o → Found d vs o
 found_same b d ws vs None e n f = e ∙ f

@@ -5,7 +5,8 @@ ghost use Rattle.image.specs.Bytes.{words_of_bytes, bytes_of_words, words_made, 
 
 use disk::{PageAddress, Place, Reason, Refusal};
 
-fn refused(reason: Reason) -> Refusal
+// A refusal of the words or bytes of an image.
+pub(crate) fn refused(reason: Reason) -> Refusal
     ensures { result ≡ refusal reason Image 0 }
 {
     Refusal::new(reason, Place::Image, PageAddress { page: 0 })
@@ -25,6 +26,7 @@ pub fn bytes_to_words(bytes: &[u8], words: &mut [u16]) -> Result<usize, Refusal>
     if words.len() < n {
         return Err(refused(Reason::TooSmall));
     }
+    // by index: after `iter_mut` the proof would know the length of the words alone
     for (i, pair) in bytes.chunks_exact(2).enumerate() {
         words[i] = u16::from_be_bytes([pair[0], pair[1]]);
     }
@@ -42,6 +44,7 @@ pub fn words_to_bytes(words: &[u16], bytes: &mut [u8]) -> Result<usize, Refusal>
     if bytes.len() / 2 < n {
         return Err(refused(Reason::TooSmall));
     }
+    // by index: after `chunks_exact_mut` the proof would know the length of the bytes alone
     for (i, word) in words.iter().enumerate() {
         let [high, low] = word.to_be_bytes();
         bytes[2 * i] = high;

@@ -7,7 +7,7 @@ ghost use Rattle.image.specs.Images.{is_image, pages_in, image_medium, goes_thro
 use crate::layout::{
     cylinders_or_one, measure, store_data, store_label, stored_data, stored_label,
 };
-use disk::{Cylinders, Drive, Label, PageAddress, Place, Reader, Reason, Refusal};
+use disk::{Cylinders, Drive, Label, PageAddress, Reader, Refusal};
 
 // A drive that keeps its pack in the words of an image. Over words that are no image it has one
 // cylinder that cannot be read, and turns off at each write to it.
@@ -41,6 +41,7 @@ impl<'a> ImageDrive<'a> {
         words
     }
 
+    #[tactic(auto, using(crate::proofs::Tables::reads))]
     fn label(&self, page: u16) -> Option<Label>
         ensures { result ≡ label_at (pages_in self.now.words.now) page }
     {
@@ -48,6 +49,7 @@ impl<'a> ImageDrive<'a> {
         stored_label(self.words, page)
     }
 
+    #[tactic(auto, using(crate::proofs::Tables::reads))]
     fn data_words(&self, page: u16) -> Option<[u16; 256]>
         ensures { result ≡ data_at (pages_in self.now.words.now) page }
     {
@@ -56,7 +58,7 @@ impl<'a> ImageDrive<'a> {
     }
 
     // Lets a write to the page go through or refuses it. Over words that are no image it turns the drive
-    // off.
+    // off. The copying drive has its own: it decides by the page's mark, and here the image decides.
     fn admit(&mut self, at: PageAddress) -> Result<(), Refusal>
         ensures answer { result ≡ (if goes_through self.old.on self.old.words.now at.page then Ok tt else Err (hardware at.page)) }
         ensures words { self.new.words.now ≡ self.old.words.now }
@@ -68,7 +70,7 @@ impl<'a> ImageDrive<'a> {
                 return Ok(());
             }
         }
-        Err(Refusal::new(Reason::Hardware, Place::Drive, at))
+        Err(Refusal::hardware(at))
     }
 }
 

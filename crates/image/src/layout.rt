@@ -3,7 +3,8 @@ ghost use Rattle.disk.specs.Media.{label_at, data_at, a_label, a_data};
 ghost use Rattle.image.specs.Images.{is_shaped, marks_fine, is_image, pages_if, has_page, mark_at, stored_if, Found, Opened};
 ghost use Rattle.image.specs.Steps.{Placed};
 
-use disk::{Cylinders, Label, PageAddress, Place, Reason, Refusal};
+use crate::coding::refused;
+use disk::{Cylinders, Label, Reason, Refusal};
 
 // The cylinders, where the length and the three counts agree on a number that a pack has.
 pub fn shape(words: &[u16]) -> Option<Cylinders>
@@ -29,24 +30,20 @@ fn are_marks_fine(marks: &[u16]) -> bool
     marks.iter().all(|mark| *mark <= 3)
 }
 
-// The cylinders of an image; a refusal for words that are none.
-pub fn open_image(words: &[u16]) -> Result<Cylinders, Refusal>
-    ensures { Opened words.now result }
-{
-    if let Some(cylinders) = shape(words) {
-        let n = cylinders.pages() as usize;
-        if are_marks_fine(&words[3 + 264 * n..]) {
-            return Ok(cylinders);
-        }
-    }
-    Err(Refusal::new(Reason::BadParameter, Place::Image, PageAddress { page: 0 }))
-}
-
 // The cylinders of an image, if the words are one.
 pub(crate) fn measure(words: &[u16]) -> Option<Cylinders>
     ensures { Found (is_image words.now) words.now result }
 {
-    open_image(words).ok()
+    let cylinders = shape(words)?;
+    let n = cylinders.pages() as usize;
+    are_marks_fine(&words[3 + 264 * n..]).then_some(cylinders)
+}
+
+// The cylinders of an image; a refusal for words that are none.
+pub fn open_image(words: &[u16]) -> Result<Cylinders, Refusal>
+    ensures { Opened words.now result }
+{
+    measure(words).ok_or(refused(Reason::BadParameter))
 }
 
 // How many cylinders are to be read: one that cannot be read where none are found.

@@ -29,11 +29,15 @@ impl<'a> Reader for ImageReader<'a> {
         cylinders_or_one(self.opened)
     }
 
+    // The drive reads in the same two lines: a function for both would ask of its callers what the ghost
+    // field of each says of `opened`.
+    #[tactic(auto, using(crate::proofs::Tables::reads))]
     fn read_label(&mut self, at: PageAddress) -> Option<Label> {
         self.opened?;
         stored_label(self.words, at.page)
     }
 
+    #[tactic(auto, using(crate::proofs::Tables::reads))]
     fn read_data(&mut self, at: PageAddress) -> Option<[u16; 256]> {
         self.opened?;
         stored_data(self.words, at.page)

@@ -1,6 +1,7 @@
 -- What drives over words have and take, and the write rule for them.
 use Rattle.std.proofs.Common.{◌≡◌, ℕ, Bool, true, false, cond, ◌&&◌, leb, List, Some, None, Ok, Err, Option, Result, MatchOption, is_ok, sym, refl, ap, ◌∙◌, subst}
 use Rattle.std.proofs.lemmas.Bool.{and_parts, and_from, and_left, and_right, leb-true, le-leb, true≢false}
+use Rattle.std.proofs.Math.Bool.{and_self}
 use Rattle.disk.specs.declared.cylinders.Cylinders.{Cylinders}
 use Rattle.disk.specs.declared.refusal.Refusal.{Refusal}
 use Rattle.disk.specs.Refusals.{hardware}
@@ -43,12 +44,8 @@ opened_is ws (Err e) h = sym h.0
 
 -- A new drive means the image.
 pub new_medium : (opened on : Bool) (ws : List ℕ) → opened ≡ is_image ws → drive_medium opened on ws ≡ image_medium on ws
-new_medium opened on ws e = ap (λ o. drive_medium o on ws) e ∙ go (new_has ws) (twice (is_image ws))
+new_medium opened on ws e = ap (λ o. drive_medium o on ws) e ∙ go (new_has ws) (and_self (is_image ws))
   where
-    twice : (b : Bool) → (b && b) ≡ b
-    twice true = refl
-    twice false = refl
-
     go : has_pages (is_image ws) ws ≡ is_image ws → (is_image ws && is_image ws) ≡ is_image ws → drive_medium (is_image ws) on ws ≡ image_medium on ws
     go a b = simp (a, b) refl
 

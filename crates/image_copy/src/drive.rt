@@ -4,14 +4,16 @@ ghost use Rattle.disk.specs.Media.{label_at, data_at, label_write, data_write, W
 ghost use Rattle.image.specs.Images.{is_image, pages_in, image_medium, Found};
 ghost use Rattle.image_copy.specs.Drives.{has_pages, drive_medium, is_inside, takes, goes_through, stays_on, Exactly};
 
-use disk::{Cylinders, Drive, Label, PageAddress, Place, Reader, Reason, Refusal};
+use disk::{Cylinders, Drive, Label, PageAddress, Reader, Refusal};
 use image::{
     cylinders_or_one, open_image, shape, store_data, store_label, stored_data, stored_label,
     stored_mark,
 };
 
-// A drive over the words of an image, of plain fields, so that a pack can hold one by value. Over words
-// that are no image it has one cylinder that cannot be read, and turns off at each write to it.
+// A drive over the words of an image that a pack can hold by value. Over words that are no image it has
+// one cylinder that cannot be read, and turns off at each write to it.
+// Its fields are plain, and `opened` is a flag that the contracts name: the prover does not cover a type
+// argument that is a struct with a `&mut` and a ghost field, as in `Pack<ImageDrive>`.
 #[derive(Drop)]
 pub struct CopyDrive<'a> {
     words: &'a mut [u16],
@@ -76,6 +78,8 @@ impl<'a> CopyDrive<'a> {
     }
 
     // Lets a write to the page go through or refuses it. A page that takes no write turns the drive off.
+    // This and the writes are as in `ImageDrive`, where whether the words are an image decides, and here
+    // the page's own mark.
     fn admit(&mut self, at: PageAddress) -> Result<(), Refusal>
         ensures answer { result ≡ (if goes_through self.old.opened self.old.on self.old.words.now at.page then Ok tt else Err (hardware at.page)) }
         ensures on { self.new.on ≡ stays_on self.old.opened self.old.on self.old.words.now at.page }
@@ -88,7 +92,7 @@ impl<'a> CopyDrive<'a> {
                 return Ok(());
             }
         }
-        Err(Refusal::new(Reason::Hardware, Place::Drive, at))
+        Err(Refusal::hardware(at))
     }
 }
 

@@ -3,6 +3,7 @@ use Rattle.std.proofs.Common.{◌≡◌, ℕ, ◌+◌, ◌<◌, ◌≤◌, true,
 use Rattle.std.proofs.lemmas.List.{take_more, take-append-drop, take_all}
 use Rattle.disk.specs.declared.refusal.Refusal.{Refusal}
 use Rattle.disk.specs.Media.{Page, Medium, Part, a_label, a_data, Write, put, after, Ignored, Torn, Cut, Written}
+use Rattle.disk.proofs.Tearing.{torn_old}
 use Rattle.survey.proofs.Following.{not_true}
 use Rattle.ledger.specs.Runs.{applied, Through, Stopped, Ran, whole, Whole, Inside, Value, Split, Kept, BothThrough, SecondStopped, NothingDone, RunLaws}
 
@@ -112,13 +113,9 @@ ran_kept ws m (Ok a) t h = through_kept ws m t h
 ran_kept ws m (Err e) t h = stopped_kept ws m e t h
 
 -- Where a run stopped.
-torn_same : (ps : List Page) (p : ℕ) (x : Part) → Torn ps p x ps
-torn_same ps p (a_label l) = inl refl
-torn_same ps p (a_data d) = inl (inl refl)
-
 pub refused_torn : (w : Write) (m : Medium) (e : Refusal) (t : Medium) → Written w m (Err e) t → Torn m.pages w.page w.part t.pages
 refused_torn w m e t h = ⊎_elim
-    (λ (i : Ignored w m t). subst (λ (qs : List Page). Torn m.pages w.page w.part qs) (sym (ap (λ (x : Medium). x.pages) i.same)) (torn_same m.pages w.page w.part))
+    (λ (i : Ignored w m t). torn_old m.pages t.pages w.page w.part (ap (λ (x : Medium). x.pages) i.same))
     (λ (c : Cut w m t). c.torn)
     h.1
 

@@ -1,10 +1,11 @@
 -- The three ways of a write to an overlay: refused as it stands, kept, and refused for want of a slot.
-use Rattle.std.proofs.Common.{◌≡◌, ℕ, ◌≤◌, Bool, true, false, ◌&&◌, ltb, ◌⊎◌, List, length, Ok, Err, Result, sym, refl, ap, ◌∙◌, inl, inr, arith}
+use Rattle.std.proofs.Common.{◌≡◌, ◌≤◌, Bool, true, false, ◌&&◌, ltb, ◌⊎◌, List, length, Ok, Err, Result, MatchResult, IsErrAnd, is_ok, sym, refl, ap, ◌∙◌, subst, inl, inr, arith}
 use Rattle.std.proofs.lemmas.Grind.{common_steps}
 use Rattle.std.proofs.lemmas.Bool.{ltb-true, ltb-false, cond-true, cond-false, and_parts}
 use Rattle.disk.specs.declared.refusal.Refusal.{Refusal}
-use Rattle.disk.specs.Media.{Page, Medium, Part, a_label, a_data, put, Write, Written, Torn}
+use Rattle.disk.specs.Media.{Medium, put, Write, Written}
 use Rattle.disk.specs.Refusals.{hardware}
+use Rattle.disk.proofs.Tearing.{torn_old}
 use Rattle.overlay.specs.declared.slot.Slot.{Slot}
 use Rattle.overlay.specs.Slots.{held_pages}
 use Rattle.overlay.specs.Placing.{stored, Kept}
@@ -34,7 +35,7 @@ refused w m ss on e =
     }
 
 -- The page has a slot or gets one.
-pub was_kept : (w : Write) (m : Medium) (ss ts : List Slot) (on : Bool) (E : Type 0) → true ≡ (on && ltb w.page (length m.pages)) → Kept {E = E} ss w.page w.part (Ok tt) ts → Outcome w m ss on (Ok tt) ts on
+was_kept : (w : Write) (m : Medium) (ss ts : List Slot) (on : Bool) (E : Type 0) → true ≡ (on && ltb w.page (length m.pages)) → Kept {E = E} ss w.page w.part (Ok tt) ts → Outcome w m ss on (Ok tt) ts on
 was_kept w m ss ts on E q k =
     let a = and_parts on _ (sym q) in
     let h = ltb-true w.page (length m.pages) a.1 in
@@ -55,12 +56,8 @@ was_kept w m ss ts on E q k =
       };
     }
 
-torn_old : (ps qs : List Page) (p : ℕ) (x : Part) → qs ≡ ps → Torn ps p x qs
-torn_old ps qs p (a_label l) e = inl e
-torn_old ps qs p (a_data d) e = inl (inl e)
-
 -- The page would need a slot that is not there.
-pub full : (w : Write) (m : Medium) (ss ts : List Slot) (on : Bool) (E : Type 0) (d : E) → true ≡ (on && ltb w.page (length m.pages)) → Kept {E = E} ss w.page w.part (Err d) ts → Outcome w m ss on (Err (hardware w.page)) ts false
+full : (w : Write) (m : Medium) (ss ts : List Slot) (on : Bool) (E : Type 0) (d : E) → true ≡ (on && ltb w.page (length m.pages)) → Kept {E = E} ss w.page w.part (Err d) ts → Outcome w m ss on (Err (hardware w.page)) ts false
 full w m ss ts on E d q k =
     let a = and_parts on _ (sym q) in
     let l = length_laid ss m.pages in
@@ -83,3 +80,10 @@ full w m ss ts on E d q k =
         held = grind (arith, common_steps, l, q, k.answer, s);
       };
     }
+
+-- What the table answers decides: kept, or refused and the drive turned off.
+pub by_table : (w : Write) (m : Medium) (ss ts : List Slot) (on : Bool) (E : Type 0) (k : Result (Unit {0}) E) (r : Result (Unit {0}) Refusal) (later : Bool) → true ≡ (on && ltb w.page (length m.pages)) → Kept {E = E} ss w.page w.part k ts → later ≡ is_ok k → MatchResult k (λ x. r ≡ Ok x) (λ d. IsErrAnd r (λ e. e ≡ hardware w.page)) → Outcome w m ss on r ts later
+by_table w m ss ts on E (Ok u) (Ok v) later q k l a = subst (λ (b : Bool). Outcome w m ss on (Ok tt) ts b) ((and_parts on _ (sym q)).0 ∙ sym l) (was_kept w m ss ts on E q k)
+by_table w m ss ts on E (Ok u) (Err e) later q k l a = cc
+by_table w m ss ts on E (Err d) (Ok v) later q k l a = absurd a
+by_table w m ss ts on E (Err d) (Err e) later q k l a = rw (a, l) (full w m ss ts on E d q k)

@@ -10,7 +10,7 @@ ghost use Rattle.overlay.specs.Overlays.{medium_over, pages_held, Exactly};
 mod slot;
 mod table;
 
-use disk::{Cylinders, Drive, Label, PageAddress, Place, Reader, Reason, Refusal};
+use disk::{Cylinders, Drive, Label, PageAddress, Reader, Refusal};
 use table::SlotTable;
 
 // A drive over any reader, with room for 64 pages that differ from those below.
@@ -65,25 +65,9 @@ impl<R: Reader> Overlay<R> {
         if self.on && self.has(at) {
             Ok(())
         } else {
-            Err(refusal(at))
+            Err(Refusal::hardware(at))
         }
     }
-
-    // Turns the drive off, for a write that was accepted and cannot be kept.
-    fn give_up(&mut self, at: PageAddress) -> Refusal
-        ensures answer { result ≡ hardware at.page }
-        ensures off { self.new ≡ record { below = self.old.below; table = self.old.table; on = false } }
-    {
-        self.on = false;
-        refusal(at)
-    }
-}
-
-// What a write to that page is refused with.
-fn refusal(at: PageAddress) -> Refusal
-    ensures { result ≡ hardware at.page }
-{
-    Refusal::new(Reason::Hardware, Place::Drive, at)
 }
 
 impl<R: Reader> Reader for Overlay<R> {
@@ -129,6 +113,7 @@ impl<R: Reader> Reader for Overlay<R> {
     }
 }
 
+// A write that is accepted and cannot be kept turns the drive off.
 impl<R: Reader> Drive for Overlay<R> {
     fn write_label(&mut self, at: PageAddress, label: Label) -> Result<(), Refusal>
         ensures rule { Written (label_write at.page label) (medium_over R.Reader.medium self.old) result (medium_over R.Reader.medium self.new) }
@@ -136,10 +121,9 @@ impl<R: Reader> Drive for Overlay<R> {
         ensures below { self.new.below ≡ self.old.below }
     {
         self.accepts(at)?;
-        match self.table.put_label(at, label) {
-            Ok(()) => Ok(()),
-            Err(_) => Err(self.give_up(at)),
-        }
+        let kept = self.table.put_label(at, label);
+        self.on = kept.is_ok();
+        kept.map_err(|_| Refusal::hardware(at))
     }
 
     fn write_data(&mut self, at: PageAddress, words: &[u16; 256]) -> Result<(), Refusal>
@@ -148,10 +132,9 @@ impl<R: Reader> Drive for Overlay<R> {
         ensures below { self.new.below ≡ self.old.below }
     {
         self.accepts(at)?;
-        match self.table.put_data(at, words) {
-            Ok(()) => Ok(()),
-            Err(_) => Err(self.give_up(at)),
-        }
+        let kept = self.table.put_data(at, words);
+        self.on = kept.is_ok();
+        kept.map_err(|_| Refusal::hardware(at))
     }
 
     fn spin_up(&mut self)

@@ -73,6 +73,9 @@ impl SlotTable {
         Ok(self.slots.len() - 1)
     }
 
+    // A label and data differ in their type and in the slot's method that takes them: one function for
+    // both would take a closure that changes the slot, and be longer.
+
     // Keeps a new label of a page; refused where no slot is left for it.
     pub fn put_label(&mut self, at: PageAddress, label: Label) -> Result<(), CapacityError>
         ensures { Kept self.old.slots.items at.page (a_label label) result self.new.slots.items }

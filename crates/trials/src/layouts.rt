@@ -1,7 +1,7 @@
 use crate::building::{
     ONE, WORDS, at, free_pack, is_same, old_data, put_data, put_label, put_mark,
 };
-use disk::{Label, Reader};
+use disk::{Cylinders, Label, Reader};
 use image::{
     ImageReader, cylinders_or_one, shape, store_data, store_label, stored_data, stored_label,
     stored_mark,
@@ -13,6 +13,8 @@ fn parts_of_a_page_by_its_mark(rt: HostRuntime) -> Result<(), Fail> {
     let mut words = free_pack(rt.alloc(), ONE)?;
     put_mark(&mut words, ONE, 23, 3);
     assert_eq!(rt; shape(&words).map(|c| c.count()), Some(1));
+    assert_eq!(rt; cylinders_or_one(shape(&words)).count(), 1);
+    assert_eq!(rt; cylinders_or_one(Cylinders::new(203)).count(), 203);
     assert_eq!(rt;
         (stored_label(&words, 22), stored_mark(&words, 22)),
         (Some(Label::free()), Some(0))

@@ -40,6 +40,17 @@ fn a_refusal_names_one_page_or_two(rt: HostRuntime) {
     assert_ne!(rt; two, Refusal::new(Reason::Rivals, Place::Pack, at(3)));
 }
 
+#[test]
+fn a_refused_write_is_the_drives(rt: HostRuntime) {
+    let refused = Refusal::hardware(at(9743));
+    assert_eq!(rt;
+        (refused.reason, refused.place),
+        (Reason::Hardware, Place::Drive)
+    );
+    assert_eq!(rt; (refused.page, refused.other), (at(9743), None));
+    assert_eq!(rt; refused.number(), 11);
+}
+
 fn check_printed(rt: &impl Abort, heap: Global, refusal: Refusal, text: &str) -> Result<(), Fail> {
     let printed = format!(in heap; "{refusal}")?;
     assert_eq!(rt; printed.as_str(), text);

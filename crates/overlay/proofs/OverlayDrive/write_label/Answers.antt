@@ -1,8 +1,8 @@
-use Rattle.std.proofs.Common.{refl}
+use Rattle.std.proofs.Common.{refl, rules}
 use Rattle.std.proofs.lemmas.Result.{err_from_is_err_and}
 use Rattle.disk.specs.Media.{label_write}
 use Rattle.overlay.specs.Overlays.{held}
-use Rattle.overlay.proofs.Writing.{refused, was_kept, full}
+use Rattle.overlay.proofs.Writing.{refused, by_table}
 use Rattle.overlay.proofs.OverlayDrive.write_label.Goals as goal
 
 pub returns-in_err-accepts : goal.returns-in_err-accepts
@@ -11,12 +11,7 @@ returns-in_err-accepts g c =
     let o = refused (label_write c.args.at.page c.args.label) (g.R.Reader.medium c.args.self.now.below) (held c.args.self.now.table) c.args.self.now.on c.in_err-accepts.ensures.variant in
     rw (p.1, p.2, c.in_err-accepts.ensures.err) record { rule = o.rule; exactly = o.exactly; below = refl {a = c.args.self.now.below} }
 
-pub returns-in-Ok : goal.returns-in-Ok
-returns-in-Ok g c =
-    let o = was_kept (label_write c.args.at.page c.args.label) (g.R.Reader.medium c.args.self.now.below) (held c.args.self.now.table) (held c.put_label.new.self) c.args.self.now.on _ c.in_ok-accepts.ensures.variant c.in-Ok.ensures in
+pub returns : goal.returns
+returns g c =
+    let o = by_table (label_write c.args.at.page c.args.label) (g.R.Reader.medium c.args.self.now.below) (held c.args.self.now.table) (held c.put_label-kept.new.self) c.args.self.now.on _ c.put_label-kept.result c.map_err.result c.is_ok-self.result c.in_ok-accepts.ensures.variant c.put_label-kept.ensures c.is_ok-self.ensures.value (search rules) in
     record { rule = o.rule; exactly = o.exactly; below = refl {a = c.args.self.now.below} }
-
-pub returns-in-Err : goal.returns-in-Err
-returns-in-Err g c =
-    let o = full (label_write c.args.at.page c.args.label) (g.R.Reader.medium c.args.self.now.below) (held c.args.self.now.table) (held c.put_label.new.self) c.args.self.now.on _ _ c.in_ok-accepts.ensures.variant c.in-Err.ensures in
-    rw (c.give_up.ensures.answer, c.give_up.ensures.off) record { rule = o.rule; exactly = o.exactly; below = refl {a = c.args.self.now.below} }
