@@ -57,10 +57,9 @@ pub(crate) fn find_links<R: Reader>(reader: &mut R, table: &[Record]) -> [Links;
         next: none,
         previous: none,
     }; 9744];
-    // over page numbers, and not over the table: the drive is asked by them
-    for page in 1..reader.cylinders().pages() {
-        if table[page as usize].verdict == Verdict::Chained {
-            note(&mut links, reader, PageAddress { page });
+    for (page, record) in table.iter().enumerate() {
+        if record.verdict == Verdict::Chained {
+            note(&mut links, reader, PageAddress { page: page as u16 });
         }
     }
     links

@@ -145,12 +145,12 @@ impl<D: Drive> Pack<D> {
     {
         let pages = self.drive.cylinders().pages();
         let totals = self.survey(table)?;
-        let mended = mend(&mut self.drive, table);
+        let found = &table[..pages as usize];
+        let mended = mend(&mut self.drive, found);
         if let Err(refusal) = self.ready_unless_refused(mended) {
             clear_records(table, pages);
             return Err(refusal);
         }
-        let found = &table[..pages as usize];
         self.kept = PackRecord {
             ready: true,
             highest: largest_serial(found),
