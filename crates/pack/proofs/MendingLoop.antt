@@ -2,7 +2,7 @@
 use Rattle.std.proofs.Common.{◌≡◌, ℕ, zero, suc, ◌+◌, ◌-◌, ◌<◌, ◌≤◌, Bool, true, false, List, [], ◌++◌, length, get_or, Some, None, Option, ◌⊎◌, inl, inr, sym, refl, ap, ◌∙◌, subst, ⊎_elim, append_assoc, append-nil, arith}
 use Rattle.std.specs.List.{range_with_len}
 use Rattle.std.specs.Bool.{then_some}
-use Rattle.std.proofs.lemmas.Bool.{lt-ltb, cases_lt}
+use Rattle.std.proofs.lemmas.Bool.{cases_Bool, lt-ltb, cases_lt}
 use Rattle.disk.specs.declared.label.Label.{Label}
 use Rattle.disk.specs.declared.refusal.Refusal.{Refusal}
 use Rattle.disk.specs.Addresses.{real_address}
@@ -15,7 +15,6 @@ use Rattle.survey.specs.Steps.{no_record}
 use Rattle.ledger.specs.Runs.{Through, Stopped}
 use Rattle.ledger.specs.Mends.{is_chained, page_after, page_before, mended, mended_label, relabelling, mend_at, gathered, mend_writes}
 use Rattle.ledger.proofs.Running.{through_then, stopped_then, stopped_early, through_whole}
-use Rattle.survey.proofs.Leading.{tested}
 use Rattle.ledger.proofs.Restoring.{gathered_more, prefix}
 use Rattle.ledger.proofs.Keeping.{verdict_chained, chained_verdict}
 use Rattle.pack.specs.declared.links.Links.{Links}
@@ -89,4 +88,4 @@ turn_plan name m n i ts ls o k t v f = go
     go (inr w) = ⊎_elim
         (λ (c : is_chained name m.pages i ≡ true). absurd (w.1 (same ∙ chained_verdict name m.pages i c)))
         (λ (c : is_chained name m.pages i ≡ false). by false c w.2 (above_reserved name m.pages i (λ e. w.0 (same ∙ e))))
-        (tested (is_chained name m.pages i))
+        (cases_Bool (is_chained name m.pages i))

@@ -2,7 +2,7 @@
 use Rattle.std.proofs.Common.{◌≡◌, ℕ, zero, suc, ◌+◌, ◌-◌, ◌<◌, ◌≤◌, Bool, true, false, cond, eqb, ◌⊎◌, List, length, get_or, set, replicate, Some, None, Option, sym, refl, ap, ◌∙◌, inl, inr, ⊎_elim, arith, length-set}
 use lib.ListN.{length-replicate}
 use Rattle.std.specs.List.{range_with_len}
-use Rattle.std.proofs.lemmas.Bool.{cases_eq, eq-eqb, ne_eqb, and_from}
+use Rattle.std.proofs.lemmas.Bool.{cases_Bool, cases_eq, eq-eqb, ne_eqb, and_from}
 use Rattle.std.proofs.lemmas.List.{get_or-set_same, get_or-set_other}
 use Rattle.disk.specs.Addresses.{real_address}
 use Rattle.disk.specs.Media.{Page}
@@ -11,7 +11,7 @@ use Rattle.survey.specs.declared.table.Verdict.TheVariants.{Reserved, Chained}
 use Rattle.survey.specs.Verdicts.{record_of}
 use Rattle.survey.specs.Chains.{Naming, follower, first_of, rivalled}
 use Rattle.survey.proofs.Following.{not_true, has_label, follows}
-use Rattle.survey.proofs.Leading.{tested, first_is}
+use Rattle.survey.proofs.Leading.{first_is}
 use Rattle.ledger.specs.Mends.{is_chained, page_after, page_before}
 use Rattle.ledger.proofs.Mending.{after_some, after_none}
 use Rattle.ledger.proofs.Salvage.{one_before}
@@ -26,8 +26,8 @@ says_chained name ps p r b e h k = ⊎_elim
     (λ (c : is_chained name ps p ≡ false). ⊎_elim
     (λ (t : b ≡ true). not_true (is_chained name ps p) c (verdict_chained name ps p (ap (λ (x : Record). x.verdict) (sym e) ∙ h t)))
     (λ (t : b ≡ false). t ∙ sym c)
-    (tested b))
-    (tested (is_chained name ps p))
+    (cases_Bool b))
+    (cases_Bool (is_chained name ps p))
 
 first_skip : (t : ℕ → Bool) (a k p : ℕ) → a + k ≡ p → t p ≡ false → first_of t (range_with_len a (suc k)) ≡ first_of t (range_with_len a k)
 first_skip t a zero p e h = let z : t a ≡ false = ap t (omega arith) ∙ h in rw z
@@ -134,7 +134,7 @@ noted_on name ps i y ls none inside c f n = record {
 
     first : first_of (is_before name ps y) (range_with_len 1 ((i + 1) - 1)) ≡ i
     first = let h = above_0 name ps i c in first_is (is_before name ps y) 1 ((i + 1) - 1) i h (omega arith) (and_from (is_chained name ps i) (eqb (page_after name ps i) y) c (eq-eqb (page_after name ps i) y (after_some name ps i y f)))
-        (λ q a b. earlier q b (tested (is_chained name ps q)) (follower name ps q) refl)
+        (λ q a b. earlier q b (cases_Bool (is_chained name ps q)) (follower name ps q) refl)
 
 -- What a turn of the loop has noted.
 pub noted_more : (name : Naming) (ps : List Page) (i : ℕ) (ls ms : List Links) → rivalled ps ≡ 0 → i < length ps → is_chained name ps i ≡ true → ms ≡ noted (follower name ps i) i ls → Noted name ps i ls → Noted name ps (i + 1) ms
