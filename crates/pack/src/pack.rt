@@ -107,13 +107,13 @@ impl<D: Drive> Pack<D> {
         ensures new { is_ok result ≡ true → NewPack (D.Reader.medium self.new.drive) self.new.kept }
     {
         self.drive.spin_up();
-        let pages = self.drive.cylinders().pages();
+        let cylinders = self.drive.cylinders();
         let written = write_new(&mut self.drive);
         self.ready_unless_refused(written)?;
         self.kept = PackRecord {
             ready: true,
             highest: 1,
-            bits: new_bits(pages),
+            bits: new_bits(cylinders),
         };
         Ok(())
     }

@@ -1,20 +1,23 @@
-use Rattle.std.proofs.Common.{◌≡◌, ℕ, ◌+◌, ◌<◌, List, length, get_or, sym, refl, ap, ◌∙◌, subst, arith, rules}
+use Rattle.std.proofs.Common.{◌≡◌, ℕ, ◌+◌, ◌<◌, List, length, get_or, replicate, sym, refl, ap, ◌∙◌, subst, arith, rules}
 use Rattle.disk.specs.Addresses.{page_named}
 use Rattle.disk.specs.Media.{Medium}
 use Rattle.survey.specs.Chains.{Naming, follower}
 use Rattle.survey.specs.Steps.{no_record}
 use Rattle.ledger.specs.Mends.{is_chained}
 use Rattle.pack.specs.declared.links.Links.{Links}
-use Rattle.pack.specs.Linking.{noted, Noted}
+use Rattle.pack.specs.Linking.{no_links, noted, Noted}
 use Rattle.pack.proofs.Noting.{says_chained, noted_none, noted_skip, noted_more, noted_all}
 use Rattle.pack.proofs.links.find_links.Goals as goal
 use Rattle.pack.proofs.links.find_links.Goals.{then-eq, else-eq}
 
 pub loop-page-init : goal.loop-page-init
-loop-page-init g c = record {
-  same = refl;
-  noted = noted_none (page_named (g.R.Reader.medium c.args.reader.now).cylinders) (g.R.Reader.medium c.args.reader.now).pages c.requires.surveyed.few;
-}
+loop-page-init g c =
+    let m : Medium = g.R.Reader.medium c.args.reader.now in
+    let none : c.default-links.result ≡ no_links = search rules in
+    record {
+      same = refl;
+      noted = subst (λ (l : Links). Noted (page_named m.cylinders) m.pages 0 (replicate 9744 l)) (sym none) (noted_none (page_named m.cylinders) m.pages c.requires.surveyed.few);
+    }
 
 pub overflow_cast-page : goal.overflow_cast-page
 overflow_cast-page g c = omega (arith, c.requires.surveyed.size, c.requires.surveyed.few)
