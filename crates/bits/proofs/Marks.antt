@@ -3,8 +3,9 @@ use Rattle.std.proofs.Common.{◌≡◌, ℕ, zero, suc, ◌+◌, ◌-◌, ◌*�
 use native.Mathlib.Nat.{add-div_right}
 use lib.Pow.{shl-shr}
 use lib.Bits.{bit_and, bit_or, and_step, and_high, and_zero_l, or_add_and, or_lt}
+use Rattle.std.specs.Int.{bit_at}
 use Rattle.std.proofs.lemmas.Nat.{pow_below}
-use Rattle.bits.proofs.Runs.{halved}
+use Rattle.std.proofs.lemmas.Nat.Bits.{bit_at_or, bit_at-pow_same, bit_at-pow_other, bit_at-lt}
 
 -- Bit j of the word w, from the right, made 1 and made 0.
 abbrev pub with_one : ℕ → ℕ → ℕ
@@ -12,24 +13,6 @@ with_one w j = w + (1 - w / 2 ^ j % 2) * 2 ^ j
 
 abbrev pub with_nought : ℕ → ℕ → ℕ
 with_nought w j = w - w / 2 ^ j % 2 * 2 ^ j
-
--- Where bit j is 0, adding 2 ^ j makes it 1 and leaves the others.
-raised : (w j : ℕ) → w / 2 ^ j % 2 ≡ 0 → (w + 2 ^ j) / 2 ^ j % 2 ≡ 1
-raised w j z = let e = add-div_right w (pow_pos j) in omega arith
-
-others : (w j i : ℕ) → (i ≡ j → ⊥) → w / 2 ^ j % 2 ≡ 0 → (w + 2 ^ j) / 2 ^ i % 2 ≡ w / 2 ^ i % 2
-others w zero zero n z = absurd (n refl)
-others w zero (suc i) n z =
-    let h : (w + 1) / 2 ≡ w / 2 = omega arith in
-    ap (λ (x : ℕ). x % 2) (halved (w + 1) i ∙ ap (λ (x : ℕ). x / 2 ^ i) h ∙ sym (halved w i))
-others w (suc j) zero n z = let e = pow-suc 2 j in omega arith
-others w (suc j) (suc i) n z =
-    let e = pow-suc 2 j in
-    let h : (w + 2 ^ suc j) / 2 ≡ w / 2 + 2 ^ j = omega arith in
-    let y : w / 2 / 2 ^ j % 2 ≡ 0 = ap (λ (x : ℕ). x % 2) (sym (halved w j)) ∙ z in
-    ap (λ (x : ℕ). x % 2) (halved (w + 2 ^ suc j) i ∙ ap (λ (x : ℕ). x / 2 ^ i) h) ∙
-    others (w / 2) j i (λ q. n (ap suc q)) y ∙
-    ap (λ (x : ℕ). x % 2) (sym (halved w i))
 
 -- A bit is 0 or 1.
 bit_cases : (w j : ℕ) → (w / 2 ^ j % 2 ≡ 0) ⊎ (w / 2 ^ j % 2 ≡ 1)
@@ -48,34 +31,6 @@ nought_new w j z = rw z (omega (arith, one-mul (2 ^ j)))
 pub nought_old : (w j : ℕ) → w / 2 ^ j % 2 ≡ 0 → with_nought w j ≡ w
 nought_old w j z = rw z (omega (arith, zero-mul (2 ^ j)))
 
--- A word whose bit j is 1 is another, whose bit j is 0, and 2 ^ j more.
-lowered : (w j : ℕ) → w / 2 ^ j % 2 ≡ 1 → (2 ^ j ≤ w) × ((w - 2 ^ j) / 2 ^ j % 2 ≡ 0)
-lowered w j o =
-    let le : 1 * 2 ^ j ≤ w = (le-div_iff_mul-le (pow_pos j)).0 (omega arith) in
-    let m = one-mul (2 ^ j) in
-    let b : w - 2 ^ j + 2 ^ j ≡ w = omega arith in
-    let e : w / 2 ^ j ≡ (w - 2 ^ j) / 2 ^ j + 1 = ap (λ (x : ℕ). x / 2 ^ j) (sym b) ∙ add-div_right (w - 2 ^ j) (pow_pos j) in
-    (omega arith, omega arith)
-
-pub one_there : (w j : ℕ) → with_one w j / 2 ^ j % 2 ≡ 1
-one_there w j = elim (bit_cases w j) [ inl z ↦ rw (one_new w j z) (raised w j z) | inr o ↦ rw (one_old w j o) o ]
-
-pub one_elsewhere : (w j i : ℕ) → (i ≡ j → ⊥) → with_one w j / 2 ^ i % 2 ≡ w / 2 ^ i % 2
-one_elsewhere w j i n = elim (bit_cases w j) [ inl z ↦ rw (one_new w j z) (others w j i n z) | inr o ↦ rw (one_old w j o) refl ]
-
-pub nought_there : (w j : ℕ) → with_nought w j / 2 ^ j % 2 ≡ 0
-nought_there w j = elim (bit_cases w j) [ inl z ↦ rw (nought_old w j z) z | inr o ↦ rw (nought_new w j o) ((lowered w j o).1) ]
-
-pub nought_elsewhere : (w j i : ℕ) → (i ≡ j → ⊥) → with_nought w j / 2 ^ i % 2 ≡ w / 2 ^ i % 2
-nought_elsewhere w j i n = elim (bit_cases w j) [
-  | inl z ↦ rw (nought_old w j z) refl
-  | inr o ↦
-      let l = lowered w j o in
-      let b : w - 2 ^ j + 2 ^ j ≡ w = omega arith in
-      let e = others (w - 2 ^ j) j i n l.1 in
-      rw (nought_new w j o) (sym (rw b at e))
-]
-
 -- One bit of a word taken out by a mask.
 and_one : (w j : ℕ) → bit_and w (2 ^ j) ≡ w / 2 ^ j % 2 * 2 ^ j
 and_one w j =
@@ -91,6 +46,35 @@ or_one w j =
       | inl z ↦ let b : bit_and w (2 ^ j) ≡ 0 * 2 ^ j = a ∙ ap (λ (x : ℕ). x * 2 ^ j) z in omega (arith, zero-mul (2 ^ j), one_new w j z)
       | inr o ↦ let b : bit_and w (2 ^ j) ≡ 1 * 2 ^ j = a ∙ ap (λ (x : ℕ). x * 2 ^ j) o in omega (arith, one-mul (2 ^ j), one_old w j o)
     ]
+
+-- So bit j is 1, and the other bits are as they were.
+pub one_there : (w j : ℕ) → with_one w j / 2 ^ j % 2 ≡ 1
+one_there w j = subst (λ (x : ℕ). bit_at x j ≡ 1) (or_one w j) (omega (arith, bit_at_or w (2 ^ j) j, bit_at-pow_same j, bit_at-lt w j))
+
+pub one_elsewhere : (w j i : ℕ) → (i ≡ j → ⊥) → with_one w j / 2 ^ i % 2 ≡ w / 2 ^ i % 2
+one_elsewhere w j i n = subst (λ (x : ℕ). bit_at x i ≡ bit_at w i) (or_one w j) (omega (arith, bit_at_or w (2 ^ j) i, bit_at-pow_other j i n))
+
+-- A word whose bit j is 1 is another, whose bit j is 0, and 2 ^ j more.
+lowered : (w j : ℕ) → w / 2 ^ j % 2 ≡ 1 → (2 ^ j ≤ w) × ((w - 2 ^ j) / 2 ^ j % 2 ≡ 0)
+lowered w j o =
+    let le : 1 * 2 ^ j ≤ w = (le-div_iff_mul-le (pow_pos j)).0 (omega arith) in
+    let m = one-mul (2 ^ j) in
+    let b : w - 2 ^ j + 2 ^ j ≡ w = omega arith in
+    let e : w / 2 ^ j ≡ (w - 2 ^ j) / 2 ^ j + 1 = ap (λ (x : ℕ). x / 2 ^ j) (sym b) ∙ add-div_right (w - 2 ^ j) (pow_pos j) in
+    (omega arith, omega arith)
+
+pub nought_there : (w j : ℕ) → with_nought w j / 2 ^ j % 2 ≡ 0
+nought_there w j = elim (bit_cases w j) [ inl z ↦ rw (nought_old w j z) z | inr o ↦ rw (nought_new w j o) ((lowered w j o).1) ]
+
+pub nought_elsewhere : (w j i : ℕ) → (i ≡ j → ⊥) → with_nought w j / 2 ^ i % 2 ≡ w / 2 ^ i % 2
+nought_elsewhere w j i n = elim (bit_cases w j) [
+  | inl z ↦ rw (nought_old w j z) refl
+  | inr o ↦
+      let l = lowered w j o in
+      let b : w - 2 ^ j + 2 ^ j ≡ w = omega arith in
+      let e = one_elsewhere (w - 2 ^ j) j i n in
+      rw (nought_new w j o) (sym (rw (one_new (w - 2 ^ j) j l.1 ∙ b) at e))
+]
 
 -- A mask and its complement share a word out.
 shared : (s w m : ℕ) → w < 2 ^ s → m < 2 ^ s → bit_and w ((2 ^ s - 1) - m) + bit_and w m ≡ w

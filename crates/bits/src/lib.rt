@@ -68,7 +68,8 @@ impl BitTable {
         requires { b ≤ 9744 }
         ensures { option_map (λ a. a.page) result ≡ first_free self.now.words a (b - a) }
     {
-        // not a `for` over the words: the first begins at bit a % 16, and the page is p, not the word's place
+        // a `while`: a turn passes all ones that lead a word at once, as docs/CALLS.md promises, and `p` is
+        // where the next word begins, not a counted index
         let mut p = a;
         while p < b {
             let n = ones_from(self.words[p as usize / 16], p % 16);

@@ -1,11 +1,11 @@
 -- A mended pack is in order, its record fits it, and it holds the same files.
-use Rattle.std.proofs.Common.{◌≡◌, ℕ, zero, suc, ◌+◌, ◌-◌, ◌*◌, ◌<◌, ◌≤◌, Bool, true, false, cond, ltb, ◌⊎◌, List, [], ◌∷◌, ◌++◌, length, get_or, Some, None, filter, Option, sym, refl, ap, ◌∙◌, subst, inl, inr, ⊎_elim, add-one, arith}
+use Rattle.std.proofs.Common.{◌≡◌, ℕ, zero, suc, ◌+◌, ◌-◌, ◌*◌, ◌<◌, ◌≤◌, Bool, true, false, cond, ltb, ◌⊎◌, List, [], ◌∷◌, length, get_or, Some, None, filter, Option, sym, refl, ap, ◌∙◌, subst, inl, inr, ⊎_elim, add-one, arith}
 use Rattle.std.specs.List.{range_with_len}
-use Rattle.std.proofs.lemmas.Bool.{cases_eq, cases_lt, lt-ltb, ltb-true, le-ltb}
+use Rattle.std.proofs.lemmas.Bool.{cases_Bool, cases_eq, cases_lt, lt-ltb, ltb-true, le-ltb}
 use Rattle.std.proofs.lemmas.List.{get_or_past}
 use Rattle.disk.specs.declared.label.Label.{Label}
 use Rattle.disk.specs.Labels.{is_file, is_free, free_label, id_of, serial_number}
-use Rattle.disk.specs.Media.{Page, Write, label_at}
+use Rattle.disk.specs.Media.{Page, label_at}
 use Rattle.bits.specs.Bits.{page_bit, free_all, none_free}
 use Rattle.bits.specs.Bits as bits_in
 use Rattle.bits.proofs.Tables as tables
@@ -17,26 +17,21 @@ use Rattle.survey.specs.Verdicts.{bare, filed, owned, record_of, table_of}
 use Rattle.survey.specs.Laws.{In}
 use Rattle.survey.proofs.Walks.{Links, links_at}
 use Rattle.survey.proofs.Following.{never, not_true, links, leader_from, leader_is, has_label, follows, member, Member, file_not_free}
-use Rattle.survey.proofs.Leading.{tested}
 use Rattle.survey.specs.Steps.{no_record}
 use Rattle.survey.proofs.Lawful as lawful
 use Rattle.survey.proofs.Finding as finding
 use Rattle.survey.proofs.Marking as marking
-use Rattle.ledger.specs.Mends.{is_chained, page_after, page_before, page_or_none, relinked, mended_label, relabelling, mend_at, gathered, mend_writes, ends_free, serial_if, largest_serial, pages_freed, mended_record}
+use Rattle.ledger.specs.Mends.{is_chained, page_after, page_before, page_or_none, relinked, mended_label, relabelling, mend_at, mend_writes, ends_free, serial_if, largest_serial, pages_freed, mended_record}
 use Rattle.ledger.specs.States.{LinkedBothWays, InOrder, bit_for, KeptState}
 use Rattle.ledger.specs.Scavenges.{Mended, SameFiles}
 use Rattle.ledger.proofs.Mending.{Names, Between, mended_chained, mended_free, mended_none, mended_nought, chained_led, led_chained, chained_member, chains_kept, leaders_kept, chain_kept}
 use Rattle.ledger.proofs.Salvage.{before_is, before_leader, chained_kept, after_kept, before_kept, rivals_kept, located_kept, files_kept, entries_kept}
-use Rattle.ledger.proofs.Restoring.{AllMended, mended_between, relabelling_same}
+use Rattle.ledger.proofs.Restoring.{gathered_none, AllMended, mended_between, relabelling_same}
 
 -- Nothing to write where each page has the label that it is to have.
-gathered_none : (f : ℕ → List Write) (xs : List ℕ) → ((p : ℕ) → f p ≡ []) → gathered f xs ≡ []
-gathered_none f [] h = refl
-gathered_none f (x ∷ xs) h = ap (λ (ws : List Write). ws ++ gathered f xs) (h x) ∙ gathered_none f xs h
-
 pub nothing_left : (name : Naming) (real : ℕ → ℕ) (ps : List Page) → ((p : ℕ) → mended_label name real ps p ≡ label_at ps p) → mend_writes name real ps ≡ []
 unfolding mend_writes mend_at
-nothing_left name real ps h = gathered_none (mend_at name real ps) (pages_above ps) (λ p. ap (relabelling p (label_at ps p)) (h p) ∙ relabelling_same p (label_at ps p))
+nothing_left name real ps h = gathered_none (mend_at name real ps) 1 (length ps - 1) (λ p _ _. ap (relabelling p (label_at ps p)) (h p) ∙ relabelling_same p (label_at ps p))
 
 -- The last page of a walk has none behind it.
 links_end : (f : ℕ → Option ℕ) (x : ℕ) (ys : List ℕ) → Links f x ys → (k : ℕ) → suc k ≡ length (x ∷ ys) → f (get_or (x ∷ ys) k 0) ≡ None
@@ -94,7 +89,7 @@ largest_least (r ∷ rs) zero d h = omega arith
 largest_least (r ∷ rs) (suc p) d h = let k = largest_least rs p d (omega arith) in omega arith
 
 -- What is chosen of a list.
-pub in_kept : (t : ℕ → Bool) (x : ℕ) (xs : List ℕ) → In x xs → t x ≡ true → bits_in.In x (filter t xs)
+pub in_kept : (t : ℕ → Bool) (x : ℕ) (xs : List ℕ) → bits_in.In x xs → t x ≡ true → bits_in.In x (filter t xs)
 in_kept t x [] i h = absurd i
 in_kept t x (y ∷ ys) (inl e) h = let k : t y ≡ true = ap t (sym e) ∙ h in rw k (inl e)
 in_kept t x (y ∷ ys) (inr i) h = go (t y) (in_kept t x ys i h)
@@ -112,13 +107,13 @@ kept_in t x (y ∷ ys) i = go (t y) refl (λ k. kept_in t x ys k) i
     go true e more (inr k) = more k
     go false e more k = more k
 
-pub in_counting : (a n x : ℕ) → a ≤ x → x < a + n → In x (range_with_len a n)
+pub in_counting : (a n x : ℕ) → a ≤ x → x < a + n → bits_in.In x (range_with_len a n)
 in_counting a zero x h k = absurd (omega arith)
 in_counting a (suc n) x h k = ⊎_elim (λ (e : x ≡ a). inl e) (λ (d : x ≡ a → ⊥). inr (in_counting (a + 1) n x (omega arith) (omega arith))) (cases_eq x a)
 
 -- The bit table of a mended pack.
 pub bits_fit : (name : Naming) (ps : List Page) (p : ℕ) → 0 < p → p < length ps → length ps ≤ 9744 → page_bit (free_all (pages_freed name ps) none_free) p ≡ cond (ends_free (record_of name ps p).verdict) 0 1
-bits_fit name ps p h k few = go (tested (ends_free (record_of name ps p).verdict))
+bits_fit name ps p h k few = go (cases_Bool (ends_free (record_of name ps p).verdict))
   where
     t : ℕ → Bool
     t p = ends_free (record_of name ps p).verdict
@@ -154,7 +149,7 @@ module _ (name : Naming) (real : ℕ → ℕ) (ps qs : List Page) (names : Names
 
   -- Read again it is to have the label that it has.
   again : (p : ℕ) → mended_label name real qs p ≡ label_at qs p
-  again p = at (cases_lt 0 p) (label_at ps p) refl (tested (is_chained name ps p))
+  again p = at (cases_lt 0 p) (label_at ps p) refl (cases_Bool (is_chained name ps p))
     where
       at : (0 < p) ⊎ (p ≤ 0) → (o : Option Label) → label_at ps p ≡ o → (is_chained name ps p ≡ true) ⊎ (is_chained name ps p ≡ false) → mended_label name real qs p ≡ label_at qs p
       at (inr z) o e c = let k : p ≡ 0 = omega arith in ap (mended_label name real qs) k ∙ (mended_nought name real qs ∙ ap (label_at qs) (sym k))
@@ -168,7 +163,7 @@ module _ (name : Naming) (real : ℕ → ℕ) (ps qs : List Page) (names : Names
 
   -- Free or chained.
   free_or_chained : (p : ℕ) (l : Label) → 0 < p → label_at qs p ≡ Some l → (l ≡ free_label) ⊎ (is_chained name qs p ≡ true)
-  free_or_chained p l h e = at (label_at ps p) refl (tested (is_chained name ps p))
+  free_or_chained p l h e = at (label_at ps p) refl (cases_Bool (is_chained name ps p))
     where
       at : (o : Option Label) → label_at ps p ≡ o → (is_chained name ps p ≡ true) ⊎ (is_chained name ps p ≡ false) → (l ≡ free_label) ⊎ (is_chained name qs p ≡ true)
       at o k (inl c) = inr (chained_kept name real ps qs names w p ∙ c)
@@ -224,7 +219,7 @@ module _ (name : Naming) (real : ℕ → ℕ) (ps qs : List Page) (names : Names
   -- The bits and the highest serial.
   bits : length ps ≤ 9744 → (p : ℕ) → 0 < p → p < length qs → page_bit (mended_record name ps).bits.words p ≡ bit_for (label_at qs p)
   unfolding mended_record
-  bits few p h k = bits_fit name ps p h (let z = x.count in omega arith) few ∙ at (label_at ps p) refl (tested (is_chained name ps p))
+  bits few p h k = bits_fit name ps p h (let z = x.count in omega arith) few ∙ at (label_at ps p) refl (cases_Bool (is_chained name ps p))
     where
       file_linked : (n b : ℕ) (l : Label) → is_file l ≡ true → is_free (relinked n b l) ≡ false
       file_linked n b l f = file_not_free (relinked n b l) (Rattle.survey.proofs.Following.file_plain (relinked n b l) ∙ (sym (Rattle.survey.proofs.Following.file_plain l) ∙ f))

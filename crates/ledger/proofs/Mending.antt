@@ -1,13 +1,13 @@
 -- Pages some of whose labels are mended, and all others as they were: no chain is another.
 use Rattle.std.proofs.Common.{◌≡◌, ℕ, ◌+◌, ◌<◌, ◌≤◌, Bool, true, false, cond, ◌&&◌, eqb, ltb, ◌⊎◌, List, length, Some, None, Option, sym, refl, ap, ◌∙◌, inl, inr, ⊎_elim}
-use Rattle.std.proofs.lemmas.Bool.{cases_lt, lt-ltb, ltb-true, le-ltb}
+use Rattle.std.proofs.lemmas.Bool.{cases_Bool, cases_lt, lt-ltb, ltb-true, le-ltb}
 use Rattle.disk.specs.declared.label.Label.{Label}
 use Rattle.disk.specs.Labels.{is_file, free_label}
 use Rattle.disk.specs.Media.{Page, label_at, data_at}
 use Rattle.survey.specs.Chains.{Naming, leads, is_leader, kept_if, points, joins, same_id, follower, chain, leader_of}
 use Rattle.survey.specs.Laws.{Follows}
 use Rattle.survey.proofs.Following.{never, not_true, kept_some, kept_from, file_plain, next_in_chain, leader_from, leader_is, has_label, follows, member, Member}
-use Rattle.survey.proofs.Leading.{tested, Led, leader_of_is, leader_of_there}
+use Rattle.survey.proofs.Leading.{Led, leader_of_is, leader_of_there}
 use Rattle.ledger.specs.Frames.{SameChains}
 use Rattle.ledger.specs.Mends.{is_chained, page_after, page_before, page_or_none, relinked, mended_label}
 use Rattle.ledger.proofs.Framing.{chain_same, free_joins}
@@ -82,14 +82,14 @@ mended_nought name real ps = refl
 
 -- A page in no chain is no leader.
 pub not_leader : (name : Naming) (ps : List Page) (q : ℕ) → is_chained name ps q ≡ false → is_leader ps q ≡ false
-not_leader name ps q c = ⊎_elim (λ (e : is_leader ps q ≡ true). not_true (is_chained name ps q) c (leader_chained name ps q e)) (λ (e : is_leader ps q ≡ false). e) (tested (is_leader ps q))
+not_leader name ps q c = ⊎_elim (λ (e : is_leader ps q ≡ true). not_true (is_chained name ps q) c (leader_chained name ps q e)) (λ (e : is_leader ps q ≡ false). e) (cases_Bool (is_leader ps q))
 
 kept_none : (t : ℕ → Bool) (o : Option ℕ) → ((p : ℕ) → o ≡ Some p → t p ≡ false) → kept_if t o ≡ None
 kept_none t None h = refl
 kept_none t (Some p) h = ap (λ (b : Bool). cond b (Some p) None) (h p refl)
 
 none_kept : (t : ℕ → Bool) (o : Option ℕ) (p : ℕ) → kept_if t o ≡ None → o ≡ Some p → t p ≡ false
-none_kept t o p e k = ⊎_elim (λ (h : t p ≡ true). never (kept_if t o) p e (kept_from t o p k h)) (λ (h : t p ≡ false). h) (tested (t p))
+none_kept t o p e k = ⊎_elim (λ (h : t p ≡ true). never (kept_if t o) p e (kept_from t o p k h)) (λ (h : t p ≡ false). h) (cases_Bool (t p))
 
 nowhere : (name : Naming) (l : Label) → name 0 ≡ Some 0 → l.next.word ≡ 0 → points name (Some l) ≡ None
 nowhere name l n e = rw (e, n) (go (eqb l.characters 512))
@@ -135,7 +135,7 @@ module _ (name : Naming) (real : ℕ → ℕ) (ps qs : List Page) (names : Names
   joins_still a p h e = ⊎_elim
       (λ (c : is_chained name ps p ≡ true). let m = chained_member name ps p c in let r = chained_label p m.label c m.at_p in ap (joins a) r.is ∙ (joins_to_relinked a r.next r.before m.label ∙ (ap (joins a) (sym m.at_p) ∙ e)))
       (λ (c : is_chained name ps p ≡ false). unchained_joins a p h c e)
-      (tested (is_chained name ps p))
+      (cases_Bool (is_chained name ps p))
 
   name_nought : name 0 ≡ Some 0
   name_nought = ap name (sym names.nought) ∙ names.there 0 names.some_page
@@ -197,7 +197,7 @@ module _ (name : Naming) (real : ℕ → ℕ) (ps qs : List Page) (names : Names
       (λ (k : label_at qs q ≡ label_at ps q). ap (λ (o : Option Label). ltb 0 q && leads o) k)
       (λ (k : label_at qs q ≡ mended_label name real ps q). unled k c (label_at ps q) refl (cases_lt 0 q))
       (w.labels q))
-      (tested (is_chained name ps q))
+      (cases_Bool (is_chained name ps q))
     where
       low : (b : Bool) → (b && false) ≡ false
       low true = refl

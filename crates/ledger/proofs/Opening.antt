@@ -5,7 +5,7 @@ use Rattle.std.proofs.lemmas.Bool.{cases_eq, cases_lt, lt-ltb, le-ltb, and_right
 use Rattle.disk.specs.declared.label.Label.{Label}
 use Rattle.disk.specs.Addresses.{page_named, real_address}
 use Rattle.disk.specs.Labels.{free_label, is_file, id_of, serial_number}
-use Rattle.disk.specs.Media.{Page, label_at, Write}
+use Rattle.disk.specs.Media.{Page, label_at}
 use Rattle.disk.proofs.Naming.{conversion}
 use Rattle.bits.specs.Bits.{page_bit, none_free, In as Listed}
 use Rattle.bits.proofs.Tables.{free_all_in, free_all_out, none_free_bit, none_free_length}
@@ -17,28 +17,18 @@ use Rattle.survey.proofs.Following.{not_true, follower_from, rest_is, leader_is,
 use Rattle.survey.proofs.Leading.{first_is, first_none, Led, leader_of_is, leader_only, rivalled_is}
 use Rattle.survey.proofs.Lawful.{led_chained, chained_led, survey_laws}
 use Rattle.ledger.specs.Formats.{directory_leader_label, directory_page_label, new_free, new_record}
-use Rattle.ledger.specs.Mends.{is_chained, page_after, page_before, mended_label, mend_at, gathered, mend_writes}
+use Rattle.ledger.specs.Mends.{is_chained, page_after, page_before, mended_label, mend_at, mend_writes}
 use Rattle.ledger.specs.Ledgers.{is_directory, counts, file_at, files, entries, ledger_of}
 use Rattle.ledger.specs.States.{LinkedBothWays, InOrder, bit_for, KeptState}
 use Rattle.ledger.specs.Books.{opening}
 use Rattle.ledger.proofs.Formatting.{Fresh}
+use Rattle.ledger.proofs.Restoring.{gathered_none}
+use Rattle.ledger.proofs.Keeping.{in_counting}
 
 -- Lists.
-gathered_none : (f : ℕ → List Write) (a n : ℕ) → ((p : ℕ) → a ≤ p → p < a + n → f p ≡ []) → gathered f (range_with_len a n) ≡ []
-gathered_none f a zero h = refl
-gathered_none f a (suc n) h = rw (h a (omega arith) (omega arith)) (gathered_none f (a + 1) n (λ p i j. h p (omega arith) (omega arith)))
-
 map_same : {X : Type 0} (f : ℕ → X) (x : X) (a n : ℕ) → ((p : ℕ) → a ≤ p → p < a + n → f p ≡ x) → map f (range_with_len a n) ≡ replicate n x
 map_same f x a zero h = refl
 map_same f x a (suc n) h = rw (h a (omega arith) (omega arith)) (ap (λ ys. x ∷ ys) (map_same f x (a + 1) n (λ p i j. h p (omega arith) (omega arith))))
-
-counted_in : (p a n : ℕ) → a ≤ p → p < a + n → Listed p (range_with_len a n)
-counted_in p a zero h i = absurd (omega arith)
-counted_in p a (suc n) h i = go (cases_eq p a) (λ j. counted_in p (a + 1) n j (omega arith))
-  where
-    go : (p ≡ a) ⊎ (p ≡ a → ⊥) → (a + 1 ≤ p → Listed p (range_with_len (a + 1) n)) → (p ≡ a) ⊎ Listed p (range_with_len (a + 1) n)
-    go (inl e) more = inl e
-    go (inr d) more = inr (more (omega arith))
 
 counted_out : (p a n : ℕ) → p < a → Listed p (range_with_len a n) → ⊥
 counted_out p a zero h i = i
@@ -274,7 +264,7 @@ module _ (c : ℕ) (qs : List Page) (f : Fresh c qs) where
       let a = none_free_length in
       let b = f.count in
       let d = f.most in
-      free_all_in (new_free (length qs)) none_free p (omega arith) (counted_in p 3 (length qs - 3) h (omega arith)) ∙ sym (ap bit_for (f.free p h i))
+      free_all_in (new_free (length qs)) none_free p (omega arith) (in_counting 3 (length qs - 3) p h (omega arith)) ∙ sym (ap bit_for (f.free p h i))
 
   bits : (p : ℕ) → 0 < p → p < length qs → page_bit (new_record (length qs)).bits.words p ≡ bit_for (label_at qs p)
   bits p h i = go (cases_eq p 1) (cases_eq p 2)

@@ -1,14 +1,13 @@
 -- A scavenge that goes through: the pages after all of its writes.
 use Rattle.std.proofs.Common.{◌≡◌, ℕ, zero, suc, ◌+◌, ◌-◌, ◌<◌, ◌≤◌, Bool, true, false, cond, eqb, ◌⊎◌, List, [], ◌∷◌, ◌++◌, length, set, Some, None, Option, sym, refl, ap, ◌∙◌, subst, inl, inr, ⊎_elim, append_assoc, append-nil, arith, length-set}
 use Rattle.std.specs.List.{range_with_len}
-use Rattle.std.proofs.lemmas.Bool.{cases_eq, cases_lt, eqb-true, eq-eqb, and_parts, and_from}
+use Rattle.std.proofs.lemmas.Bool.{cases_Bool, cases_eq, cases_lt, eqb-true, eq-eqb, and_parts, and_from}
 use Rattle.std.proofs.lemmas.List.{get_or_past, get_or-set_same, get_or-set_other}
 use Rattle.disk.specs.declared.label.Label.{Label}
 use Rattle.disk.specs.Labels.{free_label, words_of, label_of}
 use Rattle.disk.specs.Media.{Page, Write, label_at, data_at, put, a_label, unreadable}
 use Rattle.survey.specs.Chains.{Naming}
 use Rattle.survey.proofs.Following.{not_true, has_label}
-use Rattle.survey.proofs.Leading.{tested}
 use Rattle.ledger.specs.Runs.{applied}
 use Rattle.ledger.specs.Mends.{is_chained, page_after, page_before, relinked, mended_label, same_words, relabelling, mend_at, gathered, mend_writes}
 use Rattle.ledger.proofs.Framing.{label_other, label_there}
@@ -19,6 +18,11 @@ use Rattle.ledger.proofs.Mending.{Between, mended_chained, mended_free, mended_n
 pub gathered_more : (f : ℕ → List Write) (a k p : ℕ) → a + k ≡ p → gathered f (range_with_len a (suc k)) ≡ gathered f (range_with_len a k) ++ f p
 gathered_more f a zero p e = append-nil (f a) ∙ ap f (omega arith)
 gathered_more f a (suc k) p e = ap (λ (ws : List Write). f a ++ ws) (gathered_more f (a + 1) k p (omega arith)) ∙ sym (append_assoc (f a) (gathered f (range_with_len (a + 1) k)) (f p))
+
+-- Nothing is gathered where no page has anything to write.
+pub gathered_none : (f : ℕ → List Write) (a n : ℕ) → ((p : ℕ) → a ≤ p → p < a + n → f p ≡ []) → gathered f (range_with_len a n) ≡ []
+gathered_none f a zero h = refl
+gathered_none f a (suc n) h = rw (h a (omega arith) (omega arith)) (gathered_none f (a + 1) n (λ p i j. h p (omega arith) (omega arith)))
 
 -- Labels with the same words are one.
 words_same : (xs ys : List ℕ) → same_words xs ys ≡ true → xs ≡ ys
@@ -82,7 +86,7 @@ mended_some : (name : Naming) (real : ℕ → ℕ) (ps : List Page) (p : ℕ) (l
 mended_some name real ps p l h e = ⊎_elim
     (λ (c : is_chained name ps p ≡ true). (relinked (real (page_after name ps p)) (real (page_before name ps p)) l, mended_chained name real ps p l c e))
     (λ (c : is_chained name ps p ≡ false). (free_label, mended_free name real ps p l h c e))
-    (tested (is_chained name ps p))
+    (cases_Bool (is_chained name ps p))
 
 mend_one : (name : Naming) (real : ℕ → ℕ) (ps rs : List Page) (p : ℕ) → 0 < p → label_at rs p ≡ label_at ps p → One rs (applied (mend_at name real ps p) rs) p (mended_label name real ps p)
 unfolding mend_at

@@ -1,7 +1,7 @@
 -- What is read off pages that are partly or wholly mended.
 use Rattle.std.proofs.Common.{◌≡◌, ℕ, ◌+◌, ◌-◌, ◌<◌, ◌≤◌, Bool, true, false, cond, not, ◌&&◌, eqb, ltb, leb, ◌⊎◌, List, [], ◌∷◌, map, length, Some, None, Option, sym, refl, ap, ◌∙◌, subst, inl, inr, ⊎_elim, arith}
 use Rattle.std.specs.List.{range_with_len}
-use Rattle.std.proofs.lemmas.Bool.{cases_lt, eq-eqb, ne_eqb, and_parts, and_from}
+use Rattle.std.proofs.lemmas.Bool.{cases_Bool, cases_lt, eq-eqb, ne_eqb, and_parts, and_from}
 use Rattle.disk.specs.declared.label.Label.{Label}
 use Rattle.disk.specs.Labels.{is_file, is_free, free_label, id_of}
 use Rattle.disk.specs.Media.{Page, label_at}
@@ -9,7 +9,7 @@ use Rattle.survey.specs.Chains.{Naming, is_leader, follower, chain, rest, is_in,
 use Rattle.survey.specs.Laws.{In, Leader}
 use Rattle.survey.proofs.Walks.{Steps, rise}
 use Rattle.survey.proofs.Following.{next_in_chain, leader_from, leader_is, has_label, follows, number, id_at, chain_steps}
-use Rattle.survey.proofs.Leading.{tested, first_is, first_none, one_leader, Rival, rivalled_there, rivalled_is}
+use Rattle.survey.proofs.Leading.{first_is, first_none, one_leader, Rival, rivalled_there, rivalled_is}
 use Rattle.ledger.specs.Mends.{is_chained, page_after, page_before, page_or_none}
 use Rattle.ledger.specs.Ledgers.{id_on, count_on, located_page, located_file, located_at, located, is_directory, counts, file_at, files, unlocated, directory_words, all_words, entries, entries_of, LocatedFile}
 use Rattle.ledger.proofs.Mending.{Names, Between, chained_led, led_chained, leader_chained, chained_member, follower_kept, leaders_kept, chain_kept, read_kept}
@@ -62,7 +62,7 @@ before_is name ps none u p c e =
     let t = λ (q : ℕ). is_chained name ps q && eqb (page_after name ps q) p in
     first_is t 1 (length ps - 1) u m.above (omega arith)
     (and_from (is_chained name ps u) (eqb (page_after name ps u) p) c (eq-eqb (page_after name ps u) p (ap page_or_none e)))
-    (λ q a b. earlier q b (tested (is_chained name ps q)) (follower name ps q) refl)
+    (λ q a b. earlier q b (cases_Bool (is_chained name ps q)) (follower name ps q) refl)
   where
     above : 0 < p
     above = (follows name ps u p e).above
@@ -74,7 +74,7 @@ before_is name ps none u p c e =
 
 pub before_none : (name : Naming) (ps : List Page) (p : ℕ) → 0 < p → ((u : ℕ) → is_chained name ps u ≡ true → follower name ps u ≡ Some p → ⊥) → page_before name ps p ≡ 0
 unfolding page_before page_after
-before_none name ps p above h = first_none (λ (q : ℕ). is_chained name ps q && eqb (page_after name ps q) p) 1 (length ps - 1) (λ q a b. at q (tested (is_chained name ps q)) (follower name ps q) refl)
+before_none name ps p above h = first_none (λ (q : ℕ). is_chained name ps q && eqb (page_after name ps q) p) 1 (length ps - 1) (λ q a b. at q (cases_Bool (is_chained name ps q)) (follower name ps q) refl)
   where
     at : (q : ℕ) → (is_chained name ps q ≡ true) ⊎ (is_chained name ps q ≡ false) → (o : Option ℕ) → follower name ps q ≡ o → (is_chained name ps q && eqb (page_or_none (follower name ps q)) p) ≡ false
     at q (inr k) o f = rw k

@@ -1,23 +1,25 @@
 -- The loop that mends page after page.
-use Rattle.std.proofs.Common.{◌≡◌, ℕ, zero, suc, ◌+◌, ◌-◌, ◌<◌, ◌≤◌, Bool, true, false, List, [], ◌++◌, length, get_or, Some, None, Option, sym, refl, ap, ◌∙◌, subst, ⊎_elim, append_assoc, append-nil, arith}
+use Rattle.std.proofs.Common.{◌≡◌, ℕ, zero, suc, ◌+◌, ◌-◌, ◌<◌, ◌≤◌, Bool, true, false, List, [], ◌++◌, length, get_or, Some, None, Option, ◌⊎◌, inl, inr, sym, refl, ap, ◌∙◌, subst, ⊎_elim, append_assoc, append-nil, arith}
 use Rattle.std.specs.List.{range_with_len}
 use Rattle.std.specs.Bool.{then_some}
-use Rattle.std.proofs.lemmas.Bool.{lt-ltb, cases_lt}
+use Rattle.std.proofs.lemmas.Bool.{cases_Bool, lt-ltb, cases_lt}
 use Rattle.disk.specs.declared.label.Label.{Label}
 use Rattle.disk.specs.declared.refusal.Refusal.{Refusal}
 use Rattle.disk.specs.Addresses.{real_address}
 use Rattle.disk.specs.Media.{Page, Medium, Write, label_at}
 use Rattle.survey.specs.declared.table.Record.{Record}
-use Rattle.survey.specs.declared.table.Verdict.TheVariants.{Chained}
+use Rattle.survey.specs.declared.table.Verdict.TheVariants.{Reserved, Chained}
 use Rattle.survey.specs.Chains.{Naming}
+use Rattle.survey.specs.Verdicts.{record_of}
 use Rattle.survey.specs.Steps.{no_record}
 use Rattle.ledger.specs.Runs.{Through, Stopped}
 use Rattle.ledger.specs.Mends.{is_chained, page_after, page_before, mended, mended_label, relabelling, mend_at, gathered, mend_writes}
 use Rattle.ledger.proofs.Running.{through_then, stopped_then, stopped_early, through_whole}
 use Rattle.ledger.proofs.Restoring.{gathered_more, prefix}
+use Rattle.ledger.proofs.Keeping.{verdict_chained, chained_verdict}
 use Rattle.pack.specs.declared.links.Links.{Links}
 use Rattle.pack.specs.Linking.{Surveyed, links_at, LinksFound, mended_by}
-use Rattle.pack.proofs.Noting.{says_chained}
+use Rattle.pack.proofs.Noting.{above_0}
 
 -- What is written on page p.
 mended_so : (b : Bool) (k : Links) (x y : ℕ) (o : Option Label) → (b ≡ true → k.next.word ≡ x) → (b ≡ true → k.previous.word ≡ y) → mended_by (then_some b k) o ≡ mended b x y o
@@ -63,8 +65,27 @@ pub mends_all : (name : Naming) (real : ℕ → ℕ) (m t : Medium) (i : ℕ) �
 unfolding mend_writes
 mends_all name real m t i e h = subst (λ (n : ℕ). Through (gathered (mend_at name real m.pages) (range_with_len 1 (n - 1))) m t) e h
 
--- What a turn of the loop plans, by what it reads on the way.
-pub turn_plan : (name : Naming) (m n : Medium) (i : ℕ) (ts : List Record) (ls : List Links) (b : Bool) (o : Option Links) → 0 < i → i < length m.pages → Through (gathered (mend_at name real_address m.pages) (range_with_len 1 (i - 1))) m n → Surveyed name m.pages ts → LinksFound name m.pages ls → (b ≡ true → (get_or ts i no_record).verdict ≡ Chained) → ((get_or ts i no_record).verdict ≡ Chained → b ≡ true) → o ≡ then_some b (links_at ls i) → relabelling i (label_at n.pages i) (mended_by o (label_at n.pages i)) ≡ mend_at name real_address m.pages i
-turn_plan name m n i ts ls b o h k t v f x y e =
-    let c : b ≡ is_chained name m.pages i = says_chained name m.pages i (get_or ts i no_record) b (v.filled i k) x y in
-    rw (e, still name real_address m n i h t, c) (mend_so name m.pages i ls h k f)
+-- What is handed to a turn of the loop: links for a chained page, none for one that is to be free.
+abbrev pub Turn : List Record → List Links → ℕ → Option Links → Type 0
+Turn ts ls i o = (((get_or ts i no_record).verdict ≡ Chained) × (o ≡ Some (links_at ls i))) ⊎ (((get_or ts i no_record).verdict ≡ Reserved → ⊥) × ((get_or ts i no_record).verdict ≡ Chained → ⊥) × (o ≡ None))
+
+above_reserved : (name : Naming) (ps : List Page) (i : ℕ) → ((record_of name ps i).verdict ≡ Reserved → ⊥) → 0 < i
+above_reserved name ps zero e = absurd (e refl)
+above_reserved name ps (suc i) e = omega arith
+
+-- What it plans.
+pub turn_plan : (name : Naming) (m n : Medium) (i : ℕ) (ts : List Record) (ls : List Links) (o : Option Links) → i < length m.pages → Through (gathered (mend_at name real_address m.pages) (range_with_len 1 (i - 1))) m n → Surveyed name m.pages ts → LinksFound name m.pages ls → Turn ts ls i o → (0 < i) × (relabelling i (label_at n.pages i) (mended_by o (label_at n.pages i)) ≡ mend_at name real_address m.pages i)
+turn_plan name m n i ts ls o k t v f = go
+  where
+    same : (get_or ts i no_record).verdict ≡ (record_of name m.pages i).verdict
+    same = ap (λ (r : Record). r.verdict) (v.filled i k)
+
+    by : (b : Bool) → is_chained name m.pages i ≡ b → o ≡ then_some b (links_at ls i) → 0 < i → (0 < i) × (relabelling i (label_at n.pages i) (mended_by o (label_at n.pages i)) ≡ mend_at name real_address m.pages i)
+    by b c e h = (h, rw (e ∙ ap (λ (x : Bool). then_some x (links_at ls i)) (sym c), still name real_address m n i h t) (mend_so name m.pages i ls h k f))
+
+    go : Turn ts ls i o → (0 < i) × (relabelling i (label_at n.pages i) (mended_by o (label_at n.pages i)) ≡ mend_at name real_address m.pages i)
+    go (inl w) = let c = verdict_chained name m.pages i (sym same ∙ w.0) in by true c w.1 (above_0 name m.pages i c)
+    go (inr w) = ⊎_elim
+        (λ (c : is_chained name m.pages i ≡ true). absurd (w.1 (same ∙ chained_verdict name m.pages i c)))
+        (λ (c : is_chained name m.pages i ≡ false). by false c w.2 (above_reserved name m.pages i (λ e. w.0 (same ∙ e))))
+        (cases_Bool (is_chained name m.pages i))

@@ -2,16 +2,16 @@
 use Rattle.std.proofs.Common.{◌≡◌, ℕ, zero, suc, ◌+◌, ◌-◌, ◌<◌, ◌≤◌, Bool, true, false, cond, eqb, ◌⊎◌, List, length, get_or, set, replicate, Some, None, Option, sym, refl, ap, ◌∙◌, inl, inr, ⊎_elim, arith, length-set}
 use lib.ListN.{length-replicate}
 use Rattle.std.specs.List.{range_with_len}
-use Rattle.std.proofs.lemmas.Bool.{cases_eq, eq-eqb, ne_eqb, and_from}
+use Rattle.std.proofs.lemmas.Bool.{cases_Bool, cases_eq, eq-eqb, ne_eqb, and_from}
 use Rattle.std.proofs.lemmas.List.{get_or-set_same, get_or-set_other}
 use Rattle.disk.specs.Addresses.{real_address}
 use Rattle.disk.specs.Media.{Page}
 use Rattle.survey.specs.declared.table.Record.{Record}
-use Rattle.survey.specs.declared.table.Verdict.TheVariants.{Chained}
+use Rattle.survey.specs.declared.table.Verdict.TheVariants.{Reserved, Chained}
 use Rattle.survey.specs.Verdicts.{record_of}
 use Rattle.survey.specs.Chains.{Naming, follower, first_of, rivalled}
 use Rattle.survey.proofs.Following.{not_true, has_label, follows}
-use Rattle.survey.proofs.Leading.{tested, first_is}
+use Rattle.survey.proofs.Leading.{first_is}
 use Rattle.ledger.specs.Mends.{is_chained, page_after, page_before}
 use Rattle.ledger.proofs.Mending.{after_some, after_none}
 use Rattle.ledger.proofs.Salvage.{one_before}
@@ -26,15 +26,21 @@ says_chained name ps p r b e h k = ⊎_elim
     (λ (c : is_chained name ps p ≡ false). ⊎_elim
     (λ (t : b ≡ true). not_true (is_chained name ps p) c (verdict_chained name ps p (ap (λ (x : Record). x.verdict) (sym e) ∙ h t)))
     (λ (t : b ≡ false). t ∙ sym c)
-    (tested b))
-    (tested (is_chained name ps p))
+    (cases_Bool b))
+    (cases_Bool (is_chained name ps p))
 
 first_skip : (t : ℕ → Bool) (a k p : ℕ) → a + k ≡ p → t p ≡ false → first_of t (range_with_len a (suc k)) ≡ first_of t (range_with_len a k)
 first_skip t a zero p e h = let z : t a ≡ false = ap t (omega arith) ∙ h in rw z
 first_skip t a (suc k) p e h = ap (λ (n : ℕ). cond (t a) a n) (first_skip t (a + 1) k p (omega arith) h)
 
-pub first_pass : (t : ℕ → Bool) (i : ℕ) → 0 < i → t i ≡ false → first_of t (range_with_len 1 ((i + 1) - 1)) ≡ first_of t (range_with_len 1 (i - 1))
-first_pass t i h e = let k : (i + 1) - 1 ≡ suc (i - 1) = omega arith in ap (λ (n : ℕ). first_of t (range_with_len 1 n)) k ∙ first_skip t 1 (i - 1) i (omega arith) e
+pub first_pass : (t : ℕ → Bool) (i : ℕ) → t i ≡ false → first_of t (range_with_len 1 ((i + 1) - 1)) ≡ first_of t (range_with_len 1 (i - 1))
+first_pass t zero e = refl
+first_pass t (suc i) e = let k : (suc i + 1) - 1 ≡ suc (suc i - 1) = omega arith in ap (λ (n : ℕ). first_of t (range_with_len 1 n)) k ∙ first_skip t 1 (suc i - 1) (suc i) (omega arith) e
+
+-- A chained page is above page 0, whose record is reserved.
+pub above_0 : (name : Naming) (ps : List Page) (i : ℕ) → is_chained name ps i ≡ true → 0 < i
+above_0 name ps zero c = let s : Reserved ≡ Chained = chained_verdict name ps 0 c in cc
+above_0 name ps (suc i) c = omega arith
 
 none_at : (n p : ℕ) → links_at (replicate n no_links) p ≡ no_links
 none_at zero p = refl
@@ -45,7 +51,7 @@ nought : real_address 0 ≡ 0
 unfolding real_address
 nought = refl
 
-pub noted_none : (name : Naming) (ps : List Page) → length ps ≤ 9744 → Noted name ps 1 (replicate 9744 no_links)
+pub noted_none : (name : Naming) (ps : List Page) → length ps ≤ 9744 → Noted name ps 0 (replicate 9744 no_links)
 noted_none name ps few = record {
   room = let z = length-replicate {A = Links} 9744 no_links in omega arith;
   done = λ p a b c. absurd (omega arith);
@@ -53,23 +59,23 @@ noted_none name ps few = record {
   before = λ p a. ap (λ (l : Links). l.previous.word) (none_at 9744 p) ∙ sym nought;
 }
 
-pub noted_skip : (name : Naming) (ps : List Page) (i : ℕ) (ls : List Links) → 0 < i → is_chained name ps i ≡ false → Noted name ps i ls → Noted name ps (i + 1) ls
-noted_skip name ps i ls h c n = record {
+pub noted_skip : (name : Naming) (ps : List Page) (i : ℕ) (ls : List Links) → is_chained name ps i ≡ false → Noted name ps i ls → Noted name ps (i + 1) ls
+noted_skip name ps i ls c n = record {
   room = n.room;
   done = λ p a b d. ⊎_elim (λ (e : p ≡ i). not_true (is_chained name ps i) c (ap (is_chained name ps) (sym e) ∙ d)) (λ (e : p ≡ i → ⊥). n.done p a (omega arith) d) (cases_eq p i);
   left = λ p a. n.left p (omega arith);
-  before = λ p a. n.before p a ∙ ap real_address (sym (first_pass (is_before name ps p) i h (rw c)));
+  before = λ p a. n.before p a ∙ ap real_address (sym (first_pass (is_before name ps p) i (rw c)));
 }
 
-noted_end : (name : Naming) (ps : List Page) (i : ℕ) (ls : List Links) → 0 < i → is_chained name ps i ≡ true → follower name ps i ≡ None → Noted name ps i ls → Noted name ps (i + 1) ls
-noted_end name ps i ls h c f n = record {
+noted_end : (name : Naming) (ps : List Page) (i : ℕ) (ls : List Links) → is_chained name ps i ≡ true → follower name ps i ≡ None → Noted name ps i ls → Noted name ps (i + 1) ls
+noted_end name ps i ls c f n = record {
   room = n.room;
   done = λ p a b d. ⊎_elim
       (λ (e : p ≡ i). n.left p (omega arith) ∙ (sym nought ∙ ap real_address (sym (after_none name ps i f) ∙ ap (page_after name ps) (sym e))))
       (λ (e : p ≡ i → ⊥). n.done p a (omega arith) d)
       (cases_eq p i);
   left = λ p a. n.left p (omega arith);
-  before = λ p a. n.before p a ∙ ap real_address (sym (first_pass (is_before name ps p) i h (rw (c, after_none name ps i f) (ne_eqb 0 p (λ e. omega arith)))));
+  before = λ p a. n.before p a ∙ ap real_address (sym (first_pass (is_before name ps p) i (rw (c, after_none name ps i f) (ne_eqb 0 p (λ e. omega arith)))));
 }
 
 -- A write that leaves a part of an element as it is leaves it so everywhere.
@@ -101,8 +107,8 @@ module _ (ls : List Links) (p y : ℕ) (p_in : p < length ls) (y_in : y < length
       ap (λ (l : Links). l.previous.word) (get_or-set_other (noted_next ls p y) y q (record { next = (links_at (noted_next ls p y) y).next; previous = record { word = real_address p } }) no_links e)
       ∙ part_left (λ l. l.previous.word) ls p q (record { next = record { word = real_address y }; previous = (links_at ls p).previous }) no_links p_in refl
 
-noted_on : (name : Naming) (ps : List Page) (i y : ℕ) (ls : List Links) → rivalled ps ≡ 0 → 0 < i → i < length ps → is_chained name ps i ≡ true → follower name ps i ≡ Some y → Noted name ps i ls → Noted name ps (i + 1) (noted (Some y) i ls)
-noted_on name ps i y ls none h inside c f n = record {
+noted_on : (name : Naming) (ps : List Page) (i y : ℕ) (ls : List Links) → rivalled ps ≡ 0 → i < length ps → is_chained name ps i ≡ true → follower name ps i ≡ Some y → Noted name ps i ls → Noted name ps (i + 1) (noted (Some y) i ls)
+noted_on name ps i y ls none inside c f n = record {
   room = omega (arith, length-set ls i (record { next = record { word = real_address y }; previous = (links_at ls i).previous }), length-set (noted_next ls i y) y (record { next = (links_at (noted_next ls i y) y).next; previous = record { word = real_address i } }), n.room);
   done = λ p a b d. ⊎_elim
       (λ (e : p ≡ i). ap (λ (x : ℕ). (links_at (noted (Some y) i ls) x).next.word) e ∙ (next_here ls i y i_in y_in ∙ ap real_address (sym (after_some name ps i y f) ∙ ap (page_after name ps) (sym e))))
@@ -111,7 +117,7 @@ noted_on name ps i y ls none h inside c f n = record {
   left = λ p a. next_other ls i y i_in y_in p (λ e. omega arith) ∙ n.left p (omega arith);
   before = λ p a. ⊎_elim
       (λ (e : p ≡ y). ap (λ (x : ℕ). (links_at (noted (Some y) i ls) x).previous.word) e ∙ (previous_there ls i y i_in y_in ∙ ap real_address (sym first ∙ ap (λ (x : ℕ). first_of (is_before name ps x) (range_with_len 1 ((i + 1) - 1))) (sym e))))
-      (λ (e : p ≡ y → ⊥). previous_other ls i y i_in y_in p e ∙ (n.before p a ∙ ap real_address (sym (first_pass (is_before name ps p) i h (rw (c, after_some name ps i y f) (ne_eqb y p (λ z. e (sym z))))))))
+      (λ (e : p ≡ y → ⊥). previous_other ls i y i_in y_in p e ∙ (n.before p a ∙ ap real_address (sym (first_pass (is_before name ps p) i (rw (c, after_some name ps i y f) (ne_eqb y p (λ z. e (sym z))))))))
       (cases_eq p y);
 }
   where
@@ -127,16 +133,16 @@ noted_on name ps i y ls none h inside c f n = record {
     earlier q b (inl k) (Some z) g = rw (k, after_some name ps q z g) (ne_eqb z y (λ e. let s : q ≡ i = one_before name ps none q i y k c (g ∙ ap {B = Option ℕ} Some e) f in omega arith))
 
     first : first_of (is_before name ps y) (range_with_len 1 ((i + 1) - 1)) ≡ i
-    first = first_is (is_before name ps y) 1 ((i + 1) - 1) i h (omega arith) (and_from (is_chained name ps i) (eqb (page_after name ps i) y) c (eq-eqb (page_after name ps i) y (after_some name ps i y f)))
-        (λ q a b. earlier q b (tested (is_chained name ps q)) (follower name ps q) refl)
+    first = let h = above_0 name ps i c in first_is (is_before name ps y) 1 ((i + 1) - 1) i h (omega arith) (and_from (is_chained name ps i) (eqb (page_after name ps i) y) c (eq-eqb (page_after name ps i) y (after_some name ps i y f)))
+        (λ q a b. earlier q b (cases_Bool (is_chained name ps q)) (follower name ps q) refl)
 
 -- What a turn of the loop has noted.
-pub noted_more : (name : Naming) (ps : List Page) (i : ℕ) (ls ms : List Links) → rivalled ps ≡ 0 → 0 < i → i < length ps → is_chained name ps i ≡ true → ms ≡ noted (follower name ps i) i ls → Noted name ps i ls → Noted name ps (i + 1) ms
-noted_more name ps i ls ms none h inside c e n = go (follower name ps i) refl e
+pub noted_more : (name : Naming) (ps : List Page) (i : ℕ) (ls ms : List Links) → rivalled ps ≡ 0 → i < length ps → is_chained name ps i ≡ true → ms ≡ noted (follower name ps i) i ls → Noted name ps i ls → Noted name ps (i + 1) ms
+noted_more name ps i ls ms none inside c e n = go (follower name ps i) refl e
   where
     go : (o : Option ℕ) → follower name ps i ≡ o → ms ≡ noted o i ls → Noted name ps (i + 1) ms
-    go None f k = rw k (noted_end name ps i ls h c f n)
-    go (Some y) f k = rw k (noted_on name ps i y ls none h inside c f n)
+    go None f k = rw k (noted_end name ps i ls c f n)
+    go (Some y) f k = rw k (noted_on name ps i y ls none inside c f n)
 
 pub noted_all : (name : Naming) (ps : List Page) (i : ℕ) (ls : List Links) → i ≡ length ps → Noted name ps i ls → LinksFound name ps ls
 unfolding page_before

@@ -1,8 +1,8 @@
 -- What a survey has found, and the record that is made of it.
-use Rattle.std.proofs.Common.{◌≡◌, ℕ, zero, suc, ◌+◌, ◌-◌, ◌<◌, ◌≤◌, Bool, true, false, cond, ltb, List, ◌∷◌, ◌++◌, length, get_or, take, drop, replicate, Ok, Err, filter, sym, refl, ap, ◌∙◌, arith}
+use Rattle.std.proofs.Common.{◌≡◌, ℕ, zero, suc, ◌+◌, ◌-◌, ◌<◌, ◌≤◌, Bool, true, false, cond, ltb, List, ◌∷◌, ◌++◌, length, get_or, take, drop, replicate, Ok, Err, filter, sym, refl, ap, ◌∙◌, subst, arith}
 use Rattle.std.specs.List.{range_with_len}
 use Rattle.std.proofs.lemmas.Bool.{le-ltb, ltb-false}
-use Rattle.std.proofs.lemmas.List.{get_or_append_left, take-append-le, take_all, drop_at}
+use Rattle.std.proofs.lemmas.List.{take-append-le, take_all, drop_at}
 use Rattle.disk.specs.declared.refusal.Reason.TheVariants.{TooSmall, Rivals}
 use Rattle.disk.specs.declared.refusal.Place.TheVariants.{Pack}
 use Rattle.disk.specs.Refusals.{refusal, refusal_of_two}
@@ -39,18 +39,13 @@ module _ (name : Naming) (ps : List Page) (ts vs : List Record) (h : length ps �
   is : vs ≡ table_of name ps ++ drop (length ps) ts
   is = e ∙ table_is name ps ts h none
 
-  filled : (p : ℕ) → p < length ps → get_or vs p no_record ≡ record_of name ps p
-  filled p k =
-      let long = length_table name ps in
-      ap (λ (us : List Record). get_or us p no_record) is ∙ (get_or_append_left (table_of name ps) (drop (length ps) ts) no_record p (omega arith) ∙ at_table name ps p k)
-
-  pub surveyed : length ps ≤ length vs → Surveyed name ps vs
-  surveyed k = record { room = k; filled = filled; none = none }
-
   front : take (length ps) vs ≡ table_of name ps
   front =
       let long = length_table name ps in
       ap (take (length ps)) is ∙ (take-append-le (length ps) (table_of name ps) (drop (length ps) ts) (omega arith) ∙ take_all (length ps) (table_of name ps) (omega arith))
+
+  pub surveyed : (n : ℕ) → n ≡ length ps → n ≤ 9744 → Surveyed name ps (take n vs)
+  surveyed n size few = subst (λ (k : ℕ). Surveyed name ps (take k vs)) (sym size) (subst (Surveyed name ps) (sym front) (record { size = length_table name ps; few = omega arith; filled = at_table name ps; none = none }))
 
   pub cleared_again : length ps ≤ length vs → cleared (length ps) vs ≡ cleared (length ps) ts
   cleared_again k =

@@ -13,7 +13,8 @@ use Rattle.pack.specs.declared.links.Links.{Links}
 
 -- The table of a survey of these pages, among which there are no rivals.
 pub record Surveyed (name : Naming) (ps : List Page) (ts : List Record) : Type 0 where
-  pub room : length ps ≤ length ts
+  pub size : length ts ≡ length ps
+  pub few : length ps ≤ 9744
   pub filled : (p : ℕ) → p < length ps → slice_index_or ts p no_record ≡ record_of name ps p
   pub none : rivalled ps ≡ 0
 

@@ -1,10 +1,10 @@
-ghost use Rattle.std.specs.Prelude.{◌≡◌, ◌≤◌, length};
+ghost use Rattle.std.specs.Prelude.{◌≡◌, ◌*◌, length};
 ghost use Rattle.bits.specs.Bits.{none_free, free_all};
 ghost use Rattle.ledger.specs.Formats.{leader_data, directory_data, directory_page_label, directory_leader_label, directory_writes, format_writes, new_free};
 ghost use Rattle.ledger.specs.Runs.{Ran};
 
 use bits::BitTable;
-use disk::{Drive, Label, PageAddress, RealAddress, Refusal};
+use disk::{Cylinders, Drive, Label, PageAddress, RealAddress, Refusal};
 use ledger::{free_pages, put_data, put_label};
 
 // The data page of a new directory: its own entry of 10 words, and a hole of the other 246.
@@ -73,14 +73,12 @@ pub(crate) fn write_new<D: Drive>(drive: &mut D) -> Result<(), Refusal>
     write_directory(drive)
 }
 
-// The bits of a new pack of so many pages: all are free but the first three.
-pub(crate) fn new_bits(pages: u16) -> BitTable
-    requires some { 3 ≤ pages }
-    requires few { pages ≤ 9744 }
-    ensures { result.words ≡ free_all (new_free pages) none_free }
+// The bits of a new pack of that size: all are free but the first three.
+pub(crate) fn new_bits(cylinders: Cylinders) -> BitTable
+    ensures { result.words ≡ free_all (new_free (24 * cylinders.count)) none_free }
 {
     let mut bits = BitTable::none_free();
-    for page in 3..pages {
+    for page in 3..cylinders.pages() {
         bits.free(PageAddress { page });
     }
     bits

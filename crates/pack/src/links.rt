@@ -7,7 +7,7 @@ use disk::{Cylinders, PageAddress, Reader, RealAddress};
 use survey::{Record, Verdict, next_link};
 
 // The links of a page to those behind and before it in its chain; the word 0 where there is none.
-#[derive(Clone, Copy)]
+#[derive(Clone, Copy, Default)]
 pub(crate) struct Links {
     pub(crate) next: RealAddress,
     pub(crate) previous: RealAddress,
@@ -52,15 +52,10 @@ pub(crate) fn find_links<R: Reader>(reader: &mut R, table: &[Record]) -> [Links;
     ensures same { R.Reader.medium reader.new ≡ R.Reader.medium reader.old }
     ensures found { LinksFound (page_named (R.Reader.medium reader.old).cylinders) (R.Reader.medium reader.old).pages result }
 {
-    let none = RealAddress { word: 0 };
-    let mut links = [Links {
-        next: none,
-        previous: none,
-    }; 9744];
-    // over page numbers, and not over the table: the drive is asked by them
-    for page in 1..reader.cylinders().pages() {
-        if table[page as usize].verdict == Verdict::Chained {
-            note(&mut links, reader, PageAddress { page });
+    let mut links = [Links::default(); 9744];
+    for (page, record) in table.iter().enumerate() {
+        if record.verdict == Verdict::Chained {
+            note(&mut links, reader, PageAddress { page: page as u16 });
         }
     }
     links

@@ -43,11 +43,13 @@ pub(crate) fn mend<D: Drive>(drive: &mut D, table: &[Record]) -> Result<(), Refu
     ensures { Ran (mend_writes (page_named (D.Reader.medium drive.old).cylinders) real_address (D.Reader.medium drive.old).pages) (D.Reader.medium drive.old) result (D.Reader.medium drive.new) }
 {
     let links = find_links(drive, table);
-    // over page numbers, and not over the table: the drive is asked by them
-    for page in 1..drive.cylinders().pages() {
-        let i = page as usize;
-        let chained = (table[i].verdict == Verdict::Chained).then_some(links[i]);
-        mend_page(drive, PageAddress { page }, chained)?;
+    for (page, record) in table.iter().enumerate() {
+        let chained = match record.verdict {
+            Verdict::Reserved => continue,
+            Verdict::Chained => Some(links[page]),
+            Verdict::Free | Verdict::Stray | Verdict::Aside => None,
+        };
+        mend_page(drive, PageAddress { page: page as u16 }, chained)?;
     }
     Ok(())
 }

@@ -107,13 +107,13 @@ impl<D: Drive> Pack<D> {
         ensures new { is_ok result ≡ true → NewPack (D.Reader.medium self.new.drive) self.new.kept }
     {
         self.drive.spin_up();
-        let pages = self.drive.cylinders().pages();
+        let cylinders = self.drive.cylinders();
         let written = write_new(&mut self.drive);
         self.ready_unless_refused(written)?;
         self.kept = PackRecord {
             ready: true,
             highest: 1,
-            bits: new_bits(pages),
+            bits: new_bits(cylinders),
         };
         Ok(())
     }
@@ -145,12 +145,12 @@ impl<D: Drive> Pack<D> {
     {
         let pages = self.drive.cylinders().pages();
         let totals = self.survey(table)?;
-        let mended = mend(&mut self.drive, table);
+        let found = &table[..pages as usize];
+        let mended = mend(&mut self.drive, found);
         if let Err(refusal) = self.ready_unless_refused(mended) {
             clear_records(table, pages);
             return Err(refusal);
         }
-        let found = &table[..pages as usize];
         self.kept = PackRecord {
             ready: true,
             highest: largest_serial(found),

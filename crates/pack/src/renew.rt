@@ -1,6 +1,6 @@
 ghost use Rattle.std.specs.Prelude.{◌≡◌, ◌≤◌, length};
 ghost use Rattle.bits.specs.Bits.{none_free, free_all};
-ghost use Rattle.ledger.specs.Mends.{ends_free, serial_if, largest_serial};
+ghost use Rattle.ledger.specs.Mends.{ends_free, largest_serial};
 ghost use Rattle.pack.specs.Linking.{freed_in};
 
 use bits::BitTable;
@@ -28,19 +28,14 @@ pub(crate) fn mended_bits(table: &[Record]) -> BitTable
     bits
 }
 
-// The serial number of a chained page; 0 of any other.
-fn serial_of(found: &Record) -> u32
-    ensures { result ≡ serial_if found.now.verdict found.now.id }
-{
-    match found.verdict {
-        Verdict::Chained => found.id.serial(),
-        Verdict::Reserved | Verdict::Free | Verdict::Stray | Verdict::Aside => 0,
-    }
-}
-
 // The largest serial number of a chained page in a table, or 0.
 pub(crate) fn largest_serial(table: &[Record]) -> u32
     ensures { result ≡ largest_serial table.now }
 {
-    table.iter().map(serial_of).max().unwrap_or(0)
+    table
+        .iter()
+        .filter(|found| found.verdict == Verdict::Chained)
+        .map(|found| found.id.serial())
+        .max()
+        .unwrap_or(0)
 }

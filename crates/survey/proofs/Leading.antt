@@ -9,11 +9,6 @@ use Rattle.survey.specs.Laws.{In, Leader}
 use Rattle.survey.proofs.Walks.{in_is_in, is_in_in}
 use Rattle.survey.proofs.Following.{not_true, id_same, same_from, leader_is, leader_from, has_label, one_id, id_at}
 
--- A test comes out one way or the other.
-pub tested : (b : Bool) → (b ≡ true) ⊎ (b ≡ false)
-tested true = inl refl
-tested false = inr refl
-
 pub first_is : (t : ℕ → Bool) (a n p : ℕ) → a ≤ p → p < a + n → t p ≡ true → ((q : ℕ) → a ≤ q → q < p → t q ≡ false) → first_of t (range_with_len a n) ≡ p
 first_is t a zero p h k e low = absurd (omega arith)
 first_is t a (suc n) p h k e low = go (cases_eq a p) (λ l. first_is t (a + 1) n p l (omega arith) e (λ q u v. low q (omega arith) v))

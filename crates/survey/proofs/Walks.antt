@@ -1,8 +1,9 @@
 -- Walks along any step function from numbers to numbers.
-use Rattle.std.proofs.Common.{◌≡◌, ℕ, zero, suc, ◌+◌, ◌<◌, ◌≤◌, Bool, true, false, cond, ◌||◌, eqb, ◌⊎◌, List, [], ◌∷◌, map, length, get_or, Some, None, Option, sym, refl, ap, ◌∙◌, subst, inl, inr, arith}
+use Rattle.std.proofs.Common.{◌≡◌, ℕ, zero, suc, ◌+◌, ◌<◌, ◌≤◌, Bool, true, false, ◌||◌, eqb, ◌⊎◌, List, [], ◌∷◌, map, length, get_or, Some, None, Option, sym, refl, ap, ◌∙◌, subst, inl, inr, arith}
 use Rattle.std.specs.Option.{option_map}
-use Rattle.std.specs.List.{AllByRecursion}
-use Rattle.std.proofs.lemmas.Bool.{eqb-true, eqb-false, ne_eqb, eq-eqb}
+use Rattle.std.specs.List.{AllByRecursion, IsDistinct, list_any}
+use Rattle.std.proofs.lemmas.Bool.{eqb-true, ne_eqb, eq-eqb}
+use Rattle.std.proofs.lemmas.Map.Steps.{length-le_from_distinct_below}
 use Rattle.survey.specs.Chains.{onward, behind, is_in}
 use Rattle.survey.specs.Laws.{In, Distinct}
 
@@ -81,51 +82,26 @@ all_below f n below x [] l = tt
 all_below f n below x (y ∷ ys) l = (below x y l.0, all_below f n below y ys l.1)
 
 -- A list without repeats of numbers below n has at most n.
-abbrev without : ℕ → List ℕ → List ℕ
-without n [] = []
-without n (x ∷ xs) = cond (eqb x n) (without n xs) (x ∷ without n xs)
+differ_from : (x : ℕ) (xs : List ℕ) → (In x xs → ⊥) → AllByRecursion (λ y. eqb x y ≡ false) xs
+differ_from x [] h = tt
+differ_from x (y ∷ ys) h = (ne_eqb x y (λ e. h (inl e)), differ_from x ys (λ i. h (inr i)))
 
-without_in : (n : ℕ) (xs : List ℕ) (z : ℕ) → In z (without n xs) → In z xs
-without_in n [] z i = i
-without_in n (x ∷ xs) z i = go (eqb x n) (λ k. without_in n xs z k) i
-  where
-    go : (b : Bool) → (In z (without n xs) → In z xs) → In z (cond b (without n xs) (x ∷ without n xs)) → (z ≡ x) ⊎ In z xs
-    go true again k = inr (again k)
-    go false again (inl e) = inl e
-    go false again (inr k) = inr (again k)
+differ : (xs : List ℕ) → Distinct xs → IsDistinct eqb xs
+unfolding IsDistinct
+differ [] d = tt
+differ (x ∷ xs) d = (differ_from x xs d.0, differ xs d.1)
 
-without_distinct : (n : ℕ) (xs : List ℕ) → Distinct xs → Distinct (without n xs)
-without_distinct n [] d = tt
-without_distinct n (x ∷ xs) d = go (eqb x n) (without_distinct n xs d.1)
-  where
-    go : (b : Bool) → Distinct (without n xs) → Distinct (cond b (without n xs) (x ∷ without n xs))
-    go true k = k
-    go false k = (λ i. d.0 (without_in n xs x i), k)
-
-without_below : (n : ℕ) (xs : List ℕ) → AllByRecursion (λ x. x < suc n) xs → AllByRecursion (λ x. x < n) (without n xs)
-without_below n [] a = tt
-without_below n (x ∷ xs) a = go (eqb x n) refl (without_below n xs a.1)
-  where
-    go : (b : Bool) → eqb x n ≡ b → AllByRecursion (λ x. x < n) (without n xs) → AllByRecursion (λ x. x < n) (cond b (without n xs) (x ∷ without n xs))
-    go true e k = k
-    go false e k = (let h = eqb-false x n e in let t = a.0 in omega arith, k)
-
-without_none : (n : ℕ) (xs : List ℕ) → (In n xs → ⊥) → without n xs ≡ xs
-without_none n [] h = refl
-without_none n (x ∷ xs) h = rw (ne_eqb x n (λ e. h (inl (sym e)))) (ap (λ zs. x ∷ zs) (without_none n xs (λ i. h (inr i))))
-
-without_short : (n : ℕ) (xs : List ℕ) → Distinct xs → length xs ≤ suc (length (without n xs))
-without_short n [] d = omega arith
-without_short n (x ∷ xs) d = go (eqb x n) refl (without_short n xs d.1)
-  where
-    go : (b : Bool) → eqb x n ≡ b → length xs ≤ suc (length (without n xs)) → suc (length xs) ≤ suc (length (cond b (without n xs) (x ∷ without n xs)))
-    go true e k = let t : length (without n xs) ≡ length xs = ap length (without_none n xs (λ i. d.0 (subst (λ (u : ℕ). In u xs) (sym (eqb-true x n e)) i))) in omega arith
-    go false e k = omega arith
+lies_below : (n : ℕ) (xs : List ℕ) → AllByRecursion (λ x. x < n) xs → (q : ℕ) → In q xs → q < n
+lies_below n [] a q i = absurd i
+lies_below n (x ∷ xs) a q (inl e) = let t = a.0 in omega arith
+lies_below n (x ∷ xs) a q (inr i) = lies_below n xs a.1 q i
 
 pub pigeonhole : (n : ℕ) (xs : List ℕ) → AllByRecursion (λ x. x < n) xs → Distinct xs → length xs ≤ n
-pigeonhole zero [] a d = omega arith
-pigeonhole zero (x ∷ xs) a d = let t = a.0 in absurd (omega arith)
-pigeonhole (suc n) xs a d = omega (arith, without_short n xs d, pigeonhole n (without n xs) (without_below n xs a) (without_distinct n xs d))
+pigeonhole n xs a d = length-le_from_distinct_below xs n (differ xs d) (λ q h. lies_below n xs a q (is_in_in q xs (any_is_in q xs ∙ h)))
+  where
+    any_is_in : (q : ℕ) (ys : List ℕ) → is_in q ys ≡ list_any (eqb q) ys
+    any_is_in q [] = refl
+    any_is_in q (y ∷ ys) = ap (λ (b : Bool). eqb q y || b) (any_is_in q ys)
 
 -- The computed walk.
 pub behind_steps : (f : ℕ → Option ℕ) (n x : ℕ) → Steps f x (behind f n x)

@@ -23,6 +23,7 @@ pub(crate) fn first_pair(
     requires { All (λ a. a.page < length table.now) pages.now }
     ensures { result ≡ pair_of table.now pages.now }
 {
+    // a loop, for a `find_map` here is no shorter: its closure cuts the pages behind at `i`, too
     for (i, one) in pages.iter().enumerate() {
         let id = table[one.page as usize].id;
         if let Some(two) = first_of(table, id, &pages[i + 1..]) {

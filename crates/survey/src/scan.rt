@@ -15,11 +15,7 @@ impl Record {
         Record {
             verdict,
             leader: PageAddress { page: 0 },
-            id: FileId {
-                version: 0,
-                serial1: 0,
-                serial2: 0,
-            },
+            id: FileId::default(),
             number: 0,
         }
     }
@@ -52,14 +48,14 @@ fn is_leader(at: PageAddress, label: Option<Label>) -> bool
 }
 
 // The record of a page before any chain is walked.
-fn judge(at: PageAddress, label: Option<Label>, leading: bool) -> Record
-    ensures { result ≡ judged_at at.page label leading }
+fn judge(at: PageAddress, label: Option<Label>) -> Record
+    ensures { result ≡ judged_at at.page label (nat_lt 0 at.page && leads label) }
 {
     match label {
         _ if at.page == 0 => Record::bare(Verdict::Reserved),
         None => Record::bare(Verdict::Aside),
         Some(l) if l.is_free() => Record::bare(Verdict::Free),
-        Some(l) if leading => Record::filed(Verdict::Chained, at, l),
+        Some(l) if is_leader(at, label) => Record::filed(Verdict::Chained, at, l),
         Some(l) => Record::filed(Verdict::Stray, PageAddress { page: 0 }, l),
     }
 }
@@ -75,10 +71,8 @@ pub(crate) fn scan<R: Reader>(reader: &mut R, table: &mut [Record]) -> ArrayVec<
     let mut leaders = ArrayVec::new();
     for (page, record) in table.iter_mut().enumerate() {
         let at = PageAddress { page: page as u16 };
-        let label = reader.read_label(at);
-        let leading = is_leader(at, label);
-        *record = judge(at, label, leading);
-        if leading {
+        *record = judge(at, reader.read_label(at));
+        if record.verdict == Verdict::Chained {
             leaders.push(at);
         }
     }

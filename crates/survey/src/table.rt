@@ -30,9 +30,9 @@ impl Verdict {
 #[derive(Clone, Copy, PartialEq, Eq, Debug)]
 pub struct Record {
     pub verdict: Verdict,
-    // the leader of the chain that the page is in, or 0
+    // the leader of the chain that the page is in, or 0: docs/CALLS.md promises a 0 here, not an `Option`
     pub leader: PageAddress,
-    // the file id and the page number of a chained or a stray page, else 0
+    // the file id and the page number of a chained or a stray page, else 0, likewise
     pub id: FileId,
     pub number: u16,
 }

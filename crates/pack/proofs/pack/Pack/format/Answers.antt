@@ -37,13 +37,13 @@ returns g c =
     let k : PackRecord = c.args.self.now.kept in
     let l : PackRecord = record { ready = true; highest = 1; bits = c.new_bits.result } in
     let same = ap (λ (x : Medium). length x.pages) c.spin_up.ensures in
-    let n : c.pages-pages.result ≡ length m.pages = omega arith in
-    let cylinders : c.cylinders.result.count ≡ m.cylinders = c.cylinders.ensures.count ∙ ap (λ (x : Medium). x.cylinders) c.spin_up.ensures in
+    let n : 24 * c.cylinders-cylinders.result.count ≡ length m.pages = omega (arith, c.cylinders-cylinders.ensures.pages) in
+    let cylinders : c.cylinders-cylinders.result.count ≡ m.cylinders = c.cylinders-cylinders.ensures.count ∙ ap (λ (x : Medium). x.cylinders) c.spin_up.ensures in
     let kept : l ≡ new_record (length m.pages) =
     ap (λ (ws : List ℕ). record { ready = true; highest = 1; bits = record { words = ws } }) (c.new_bits.ensures ∙ ap (λ (k : ℕ). free_all (new_free k) none_free) n) in
     let d : Done (format_plan (length m.pages)) (spun_up m) k (Ok tt) t l =
     done_well (format_writes (length m.pages)) tt (new_record (length m.pages)) k l (spun_up m) t c.write_new-written.result tt tt refl c.in_ok-ready_unless_refused.ensures.answer
     (ran m (g.D.Reader.medium c.spin_up.new.self) (g.D.Reader.medium c.write_new-written.new.drive) t c.write_new-written.result c.spin_up.ensures (ap g.D.Reader.medium c.ready_unless_refused.ensures.drive) c.write_new-written.ensures)
     kept in
-    let sized : Sized (spun_up m) = record { least = rw cylinders at c.cylinders.result.fits.0; most = rw cylinders at c.cylinders.result.fits.1; pages = sym n ∙ (c.pages-pages.ensures ∙ ap (λ (k : ℕ). 24 * k) cylinders) } in
+    let sized : Sized (spun_up m) = record { least = rw cylinders at c.cylinders-cylinders.result.fits.0; most = rw cylinders at c.cylinders-cylinders.result.fits.1; pages = sym n ∙ ap (λ (k : ℕ). 24 * k) cylinders } in
     record { done = d; value = planned (format_plan (length m.pages)) (spun_up m) k (Ok tt) t l d; steady = format_value m k (Ok tt) t l (omega arith) d; new = new_from (spun_up m) k (Ok tt) t l sized d }

@@ -21,7 +21,7 @@ mend-mended-requires g c =
     let name : Naming = page_named m.cylinders in
     let room : length m.pages ≤ length c.args.table.now = omega arith in
     let a : Answered name m.pages c.in_ok-totals.totals = answered name m.pages (length c.args.table.now) c.in_ok-totals.totals room c.in_ok-totals.ensures.answer in
-    record { surveyed = subst (λ (x : Medium). Surveyed (page_named x.cylinders) x.pages c.survey.new.table) (sym c.survey.ensures.same) (surveyed name m.pages c.args.table.now c.survey.new.table room a.none c.survey.ensures.table (omega arith)) }
+    record { surveyed = subst (λ (x : Medium). Surveyed (page_named x.cylinders) x.pages (take c.pages-pages.result c.survey.new.table)) (sym c.survey.ensures.same) (surveyed name m.pages c.args.table.now c.survey.new.table room a.none c.survey.ensures.table c.pages-pages.result (omega arith) (omega arith)) }
 
 -- The plan of a pack without rivals.
 planned : (m : Medium) (k : PackRecord) (r : Result Totals Refusal) (t : Medium) (l : PackRecord) → rivalled m.pages ≡ 0 → Done (mending (page_named m.cylinders) real_address m.pages k 0) m k r t l → Done (mending (page_named m.cylinders) real_address m.pages k (rivalled m.pages)) m k r t l
