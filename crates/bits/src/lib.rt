@@ -10,6 +10,7 @@ use disk::PageAddress;
 // How many pages the largest pack has.
 const PAGES: u16 = 9744;
 
+// Of fixed size, for the largest pack: no library crate allocates.
 #[derive(Clone, Copy)]
 pub struct BitTable {
     words: [u16; 609],

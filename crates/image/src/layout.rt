@@ -53,7 +53,8 @@ pub fn cylinders_or_one(found: Option<Cylinders>) -> Cylinders
     found.unwrap_or(Cylinders::new(1).unwrap())
 }
 
-// Where the parts of a page stand in the words.
+// Where the parts of a page stand in the words. The calls below take words and a page: a struct of both
+// would be two, one that borrows the words to read and one to write.
 #[derive(Clone, Copy)]
 struct Places {
     label: usize,

@@ -46,7 +46,8 @@ fn note<R: Reader>(links: &mut [Links; 9744], reader: &mut R, at: PageAddress)
     };
 }
 
-// The links of every chained page, by the table of a survey.
+// The links of every chained page, by the table of a survey, in an array of fixed size, since no library
+// crate allocates.
 pub(crate) fn find_links<R: Reader>(reader: &mut R, table: &[Record]) -> [Links; 9744]
     requires surveyed { Surveyed (page_named (R.Reader.medium reader.old).cylinders) (R.Reader.medium reader.old).pages table.now }
     ensures same { R.Reader.medium reader.new ≡ R.Reader.medium reader.old }

@@ -33,7 +33,9 @@ pub fn next_link<R: Reader>(reader: &mut R, cylinders: Cylinders, label: Label) 
     })
 }
 
-// Marks the pages of the chain of a leader with it, page after page.
+// Marks the pages of the chain of a leader with it, page after page. A reader and a table stay two
+// parameters, and the room in the table a clause of both walks: a struct of two borrows for them would be
+// made once, and taken apart at its first use.
 fn walk<R: Reader>(reader: &mut R, table: &mut [Record], leader: PageAddress)
     requires room { length (R.Reader.medium reader.old).pages ≤ length table.old }
     requires leads { is_leader (R.Reader.medium reader.old).pages leader.page ≡ true }
