@@ -104,7 +104,8 @@ impl fmt::Display for Place {
     }
 }
 
-// A refusal: why, where, and at which page, or at which two.
+// A refusal: why, where, and at which page, or at which two. One that is of no page has page 0: each is
+// printed with a page.
 #[derive(Clone, Copy, PartialEq, Eq, Debug)]
 pub struct Refusal {
     pub reason: Reason,

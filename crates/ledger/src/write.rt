@@ -4,6 +4,9 @@ ghost use Rattle.ledger.specs.Runs.{Ran};
 
 use disk::{Drive, Label, PageAddress, Refusal};
 
+// A label and data are written by two calls, as the drive has two: they differ in type, and one function of
+// both would take the part in a form of its own.
+
 // Writes the label of one page.
 pub fn put_label<D: Drive>(drive: &mut D, at: PageAddress, label: Label) -> Result<(), Refusal>
     ensures { Ran (label_write at.page label ∷ []) (D.Reader.medium drive.old) result (D.Reader.medium drive.new) }
