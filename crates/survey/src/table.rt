@@ -19,6 +19,7 @@ pub enum Verdict {
 }
 
 impl Verdict {
+    // The enum's own number: its cast is the conversion.
     pub fn number(self) -> u16
         ensures { result ≡ verdict_number self }
     {
