@@ -56,6 +56,6 @@ abbrev pub mended_by : Option Links → Option Label → Option Label
 mended_by None o = mended false 0 0 o
 mended_by (Some l) o = mended true l.next.word l.previous.word o
 
--- The pages of a pack of n pages that end free, by a table; page 0 is not among them.
+-- The pages of a pack of n pages that end free, by a table; by a survey's, page 0 is not among them.
 abbrev pub freed_in : List Record → ℕ → List ℕ
 freed_in ts n = filter (λ p. ends_free (slice_index_or ts p no_record).verdict) (range_with_len 0 n)

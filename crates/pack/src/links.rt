@@ -6,14 +6,15 @@ ghost use Rattle.pack.specs.Linking.{Surveyed, noted, LinksFound};
 use disk::{Cylinders, PageAddress, Reader, RealAddress};
 use survey::{Record, Verdict, next_link};
 
-// The links of a page to those behind and before it in its chain; the word 0 where there is none.
+// The links of a page to those behind and before it in its chain; the word 0 where there is none, as labels
+// have it.
 #[derive(Clone, Copy, Default)]
 pub(crate) struct Links {
     pub(crate) next: RealAddress,
     pub(crate) previous: RealAddress,
 }
 
-// The address by which labels name a page of the pack.
+// The address by which labels name a page of the pack; no page of it lacks one.
 fn address_of(page: PageAddress, cylinders: Cylinders) -> RealAddress
     requires { page.page < 24 * cylinders.count }
     ensures { result.word ≡ real_address page.page }

@@ -43,7 +43,7 @@ pub(crate) fn mend<D: Drive>(drive: &mut D, table: &[Record]) -> Result<(), Refu
     ensures { Ran (mend_writes (page_named (D.Reader.medium drive.old).cylinders) real_address (D.Reader.medium drive.old).pages) (D.Reader.medium drive.old) result (D.Reader.medium drive.new) }
 {
     let links = find_links(drive, table);
-    // the links by their page: there are 9,744 of them, and the table is as long as the pack
+    // the links by their page, in the one arm that has any: zipped, all three arms would carry them
     for (page, record) in table.iter().enumerate() {
         let chained = match record.verdict {
             Verdict::Reserved => continue,

@@ -28,7 +28,8 @@ pub(crate) fn mended_bits(table: &[Record]) -> BitTable
     bits
 }
 
-// The largest serial number of a chained page in a table, or 0.
+// The largest serial number of a chained page in a table, or 0 where there is none, as docs/CALLS.md
+// promises of the highest.
 pub(crate) fn largest_serial(table: &[Record]) -> u32
     ensures { result ≡ largest_serial table.now }
 {

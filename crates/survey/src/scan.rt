@@ -40,13 +40,6 @@ fn is_leading(label: Label) -> bool
     label.is_file() && label.number == 0 && label.characters == 512
 }
 
-// Whether a page with that label is a leader.
-fn is_leader(at: PageAddress, label: Option<Label>) -> bool
-    ensures { result ≡ (nat_lt 0 at.page && leads label) }
-{
-    at.page > 0 && label.is_some_and(is_leading)
-}
-
 // The record of a page before any chain is walked.
 fn judge(at: PageAddress, label: Option<Label>) -> Record
     ensures { result ≡ judged_at at.page label (nat_lt 0 at.page && leads label) }
@@ -55,7 +48,7 @@ fn judge(at: PageAddress, label: Option<Label>) -> Record
         _ if at.page == 0 => Record::bare(Verdict::Reserved),
         None => Record::bare(Verdict::Aside),
         Some(l) if l.is_free() => Record::bare(Verdict::Free),
-        Some(l) if is_leader(at, label) => Record::filed(Verdict::Chained, at, l),
+        Some(l) if is_leading(l) => Record::filed(Verdict::Chained, at, l),
         Some(l) => Record::filed(Verdict::Stray, PageAddress { page: 0 }, l),
     }
 }
