@@ -165,24 +165,38 @@ data_seen ws p a b m k h =
     ∙ (cond-true (ltb (mark ws (count ws) p) 2) (Some (take 256 (drop (2 + 8 * count ws + 256 * p) ws))) None (lt-ltb (mark ws (count ws) p) 2 (omega (arith, mark_is ws p a b m k)))
     ∙ ap (λ i. Some (take 256 (drop i ws))) (sym k.words))
 
+pub absent_label : (ws : List ℕ) (p : ℕ) → has_page ws p ≡ false → None ≡ label_at (pages_if (is_shaped ws) ws) p
+absent_label ws p h = sym (ap (λ x. x.label) (no_page ws p h))
+
+pub absent_data : (ws : List ℕ) (p : ℕ) → has_page ws p ≡ false → None ≡ data_at (pages_if (is_shaped ws) ws) p
+absent_data ws p h = sym (ap (λ x. x.words) (no_page ws p h))
+
+pub ruleset label_read = (absent_label, label_hidden, label_seen)
+
+pub ruleset data_read = (absent_data, data_hidden, data_seen)
+
 -- What is known by the cylinders that were found.
 pub size_found : (b : Bool) (ws : List ℕ) (o : Option Cylinders) (r : Cylinders) → Found b ws o → MatchOption o (r.count ≡ 1) (λ c. r ≡ c) → r.count ≡ cylinders_if b ws
 size_found b ws None r f e = e ∙ sym (cylinders_off b ws f)
 size_found b ws (Some c) r f e = ap (λ x. x.count) e ∙ cylinders_on b ws c.count f.0 f.1
 
-pub no_label : (ws : List ℕ) (o : Option Cylinders) (p : ℕ) → Found (is_image ws) ws o → o ≡ None → None ≡ label_at (pages_if (is_image ws) ws) p
-no_label ws None p f e = sym (ap (λ x. x.label) (unread (is_image ws) ws p f))
-no_label ws (Some c) p f e = cc
+pub no_label : (b : Bool) (ws : List ℕ) (o : Option Cylinders) (p : ℕ) → Found b ws o → o ≡ None → None ≡ label_at (pages_if b ws) p
+no_label b ws None p f e = sym (ap (λ x. x.label) (unread b ws p f))
+no_label b ws (Some c) p f e = cc
 
-pub no_data : (ws : List ℕ) (o : Option Cylinders) (p : ℕ) → Found (is_image ws) ws o → o ≡ None → None ≡ data_at (pages_if (is_image ws) ws) p
-no_data ws None p f e = sym (ap (λ x. x.words) (unread (is_image ws) ws p f))
-no_data ws (Some c) p f e = cc
+pub no_data : (b : Bool) (ws : List ℕ) (o : Option Cylinders) (p : ℕ) → Found b ws o → o ≡ None → None ≡ data_at (pages_if b ws) p
+no_data b ws None p f e = sym (ap (λ x. x.words) (unread b ws p f))
+no_data b ws (Some c) p f e = cc
+
+pub found_shape : (ws : List ℕ) (o : Option Cylinders) (c : Cylinders) → Found (is_image ws) ws o → o ≡ Some c → is_shaped ws ≡ true
+found_shape ws None c f e = cc
+found_shape ws (Some d) c f e = image_shaped ws f.0
 
 pub image_read : (ws : List ℕ) (o : Option Cylinders) (c : Cylinders) → Found (is_image ws) ws o → o ≡ Some c → pages_if (is_shaped ws) ws ≡ pages_if (is_image ws) ws
 image_read ws None c f e = cc
 image_read ws (Some d) c f e = ap (λ t. pages_if t ws) (image_shaped ws f.0 ∙ sym f.0)
 
-pub ruleset reads = (no_label, no_data, image_read)
+pub ruleset reads = (no_label, no_data, found_shape, image_read)
 
 pub found_fine : (ws : List ℕ) (b : Bool) (c : Cylinders) (o : Option Cylinders) → is_image ws ≡ b → 24 * c.count ≡ count ws → o ≡ then_some b c → Found (is_image ws) ws o
 found_fine ws true c o i n e = subst (λ (x : Option Cylinders). Found (is_image ws) ws x) (sym e) (i, n)

@@ -4,9 +4,7 @@ ghost use Rattle.disk.specs.Media.{label_at, data_at, label_write, data_write, W
 ghost use Rattle.std.proofs.Props.{props};
 ghost use Rattle.image.specs.Images.{is_image, pages_in, image_medium, goes_through, stays_on, Found, Exactly};
 
-use crate::layout::{
-    cylinders_or_one, measure, store_data, store_label, stored_data, stored_label,
-};
+use crate::layout::{cylinders_or_one, data_in, label_in, measure, store_data, store_label};
 use disk::{Cylinders, Drive, Label, PageAddress, Reader, Refusal};
 
 // A drive that keeps its pack in the words of an image. Over words that are no image it has one
@@ -45,16 +43,14 @@ impl<'a> ImageDrive<'a> {
     fn label(&self, page: u16) -> Option<Label>
         ensures { result ≡ label_at (pages_in self.now.words.now) page }
     {
-        self.opened?;
-        stored_label(self.words, page)
+        label_in(self.words, self.opened?, page)
     }
 
     #[tactic(auto, using(crate::proofs::Tables::reads))]
     fn data_words(&self, page: u16) -> Option<[u16; 256]>
         ensures { result ≡ data_at (pages_in self.now.words.now) page }
     {
-        self.opened?;
-        stored_data(self.words, page)
+        data_in(self.words, self.opened?, page)
     }
 
     // Lets a write to the page go through or refuses it. Over words that are no image it turns the drive

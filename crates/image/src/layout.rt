@@ -1,6 +1,6 @@
-ghost use Rattle.std.specs.Prelude.{◌≡◌, ◌+◌, ◌*◌, false, MatchOption};
+ghost use Rattle.std.specs.Prelude.{◌≡◌, ◌+◌, ◌*◌, true, false, MatchOption};
 ghost use Rattle.disk.specs.Media.{label_at, data_at, a_label, a_data};
-ghost use Rattle.image.specs.Images.{is_shaped, marks_fine, is_image, pages_if, has_page, mark_at, stored_if, Found, Opened};
+ghost use Rattle.image.specs.Images.{count, is_shaped, marks_fine, is_image, pages_if, has_page, mark_at, stored_if, Found, Opened};
 ghost use Rattle.image.specs.Steps.{Placed};
 
 use crate::coding::refused;
@@ -62,11 +62,12 @@ struct Places {
     mark: usize,
 }
 
-// None where the words lack the shape of an image or have no such page.
-fn places_of(words: &[u16], page: u16) -> Option<Places>
+// None where words of that size have no such page.
+fn places_in(words: &[u16], cylinders: Cylinders, page: u16) -> Option<Places>
+    requires shaped { is_shaped words.now ≡ true }
+    requires size { 24 * cylinders.count ≡ count words.now }
     ensures { MatchOption result (has_page words.now page ≡ false) (λ at. Placed words.now page at.label at.words at.mark) }
 {
-    let cylinders = shape(words)?;
     if page >= cylinders.pages() {
         return None;
     }
@@ -79,6 +80,13 @@ fn places_of(words: &[u16], page: u16) -> Option<Places>
     })
 }
 
+// None where the words lack the shape of an image or have no such page.
+fn places_of(words: &[u16], page: u16) -> Option<Places>
+    ensures { MatchOption result (has_page words.now page ≡ false) (λ at. Placed words.now page at.label at.words at.mark) }
+{
+    places_in(words, shape(words)?, page)
+}
+
 // The mark of a page in words of an image's shape, whatever it says.
 pub fn stored_mark(words: &[u16], page: u16) -> Option<u16>
     ensures { result ≡ mark_at words.now page }
@@ -88,15 +96,20 @@ pub fn stored_mark(words: &[u16], page: u16) -> Option<u16>
 }
 
 // A label and data differ in their bit of the mark, their place and their type: reads and stores of
-// both in one would take all three and be longer. The reads stay out of line: inlined, they take
-// registers from a survey's search for rivals, which then takes half as long again.
+// both in one would take all three and be longer.
 
-// The label of a page in words of that shape, where its mark says that it can be read.
-#[inline(never)]
-pub fn stored_label(words: &[u16], page: u16) -> Option<Label>
+// A reader that has measured its words reads by the size that they have: to find it at each read takes some
+// five times as long. That the words have it is asked for by `places_in` and both reads, since a struct of
+// words and size would be made anew at each.
+
+// The label of a page in words of that size, where its mark says that it can be read.
+#[tactic(auto, using(crate::proofs::Tables::label_read))]
+pub(crate) fn label_in(words: &[u16], cylinders: Cylinders, page: u16) -> Option<Label>
+    requires shaped { is_shaped words.now ≡ true }
+    requires size { 24 * cylinders.count ≡ count words.now }
     ensures { result ≡ label_at (pages_if (is_shaped words.now) words.now) page }
 {
-    let at = places_of(words, page)?;
+    let at = places_in(words, cylinders, page)?;
     if words[at.mark] % 2 == 1 {
         return None;
     }
@@ -106,17 +119,35 @@ pub fn stored_label(words: &[u16], page: u16) -> Option<Label>
 }
 
 // The data of a page, likewise.
-#[inline(never)]
-pub fn stored_data(words: &[u16], page: u16) -> Option<[u16; 256]>
+#[tactic(auto, using(crate::proofs::Tables::data_read))]
+pub(crate) fn data_in(words: &[u16], cylinders: Cylinders, page: u16) -> Option<[u16; 256]>
+    requires shaped { is_shaped words.now ≡ true }
+    requires size { 24 * cylinders.count ≡ count words.now }
     ensures { result ≡ data_at (pages_if (is_shaped words.now) words.now) page }
 {
-    let at = places_of(words, page)?;
+    let at = places_in(words, cylinders, page)?;
     if words[at.mark] >= 2 {
         return None;
     }
     let mut data = [0; 256];
     data.copy_from_slice(&words[at.words..at.words + 256]);
     Some(data)
+}
+
+// The label of a page in words of an image's shape, likewise.
+#[tactic(auto, using(crate::proofs::Tables::reads))]
+pub fn stored_label(words: &[u16], page: u16) -> Option<Label>
+    ensures { result ≡ label_at (pages_if (is_shaped words.now) words.now) page }
+{
+    label_in(words, shape(words)?, page)
+}
+
+// The data of a page in words of that shape, likewise.
+#[tactic(auto, using(crate::proofs::Tables::reads))]
+pub fn stored_data(words: &[u16], page: u16) -> Option<[u16; 256]>
+    ensures { result ≡ data_at (pages_if (is_shaped words.now) words.now) page }
+{
+    data_in(words, shape(words)?, page)
 }
 
 // Puts a new label on a page, which can then be read. Words without that page stay as they are.

@@ -2,7 +2,7 @@ ghost use Rattle.std.specs.Prelude.{◌≡◌, false};
 ghost use Rattle.std.proofs.Props.{props};
 ghost use Rattle.image.specs.Images.{is_image, image_medium, Found};
 
-use crate::layout::{cylinders_or_one, measure, stored_data, stored_label};
+use crate::layout::{cylinders_or_one, data_in, label_in, measure};
 use disk::{Cylinders, Label, PageAddress, Reader};
 
 // Reads the words of an image. Over words that are no image it has one cylinder that cannot be read.
@@ -29,17 +29,15 @@ impl<'a> Reader for ImageReader<'a> {
         cylinders_or_one(self.opened)
     }
 
-    // The drive reads in the same two lines: a function for both would ask of its callers what the ghost
-    // field of each says of `opened`.
+    // The drive reads in the same line: a function for both would ask of its callers what the ghost field of
+    // each says of `opened`.
     #[tactic(auto, using(crate::proofs::Tables::reads))]
     fn read_label(&mut self, at: PageAddress) -> Option<Label> {
-        self.opened?;
-        stored_label(self.words, at.page)
+        label_in(self.words, self.opened?, at.page)
     }
 
     #[tactic(auto, using(crate::proofs::Tables::reads))]
     fn read_data(&mut self, at: PageAddress) -> Option<[u16; 256]> {
-        self.opened?;
-        stored_data(self.words, at.page)
+        data_in(self.words, self.opened?, at.page)
     }
 }

@@ -1,13 +1,13 @@
 -- What drives over words have and take, and the write rule for them.
-use Rattle.std.proofs.Common.{◌≡◌, ℕ, Bool, true, false, cond, ◌&&◌, leb, List, Some, None, Ok, Err, Option, Result, MatchOption, is_ok, sym, refl, ap, ◌∙◌, subst}
+use Rattle.std.proofs.Common.{◌≡◌, ℕ, ◌*◌, Bool, true, false, cond, ◌&&◌, leb, List, length, Some, None, Ok, Err, Option, Result, MatchOption, is_ok, sym, refl, ap, ◌∙◌, subst}
 use Rattle.std.proofs.lemmas.Bool.{and_parts, and_from, and_left, and_right, leb-true, le-leb, true≢false}
 use Rattle.std.proofs.Math.Bool.{and_self}
 use Rattle.disk.specs.declared.cylinders.Cylinders.{Cylinders}
 use Rattle.disk.specs.declared.refusal.Refusal.{Refusal}
 use Rattle.disk.specs.Refusals.{hardware}
-use Rattle.disk.specs.Media.{Write, Written}
-use Rattle.image.specs.Images.{count, mark, is_shaped, is_image, image_medium, has_page, mark_at, stored_if, Opened}
-use Rattle.image.proofs.Tables.{image_shaped, mark_small, count_is}
+use Rattle.disk.specs.Media.{Write, Written, label_at, data_at}
+use Rattle.image.specs.Images.{count, mark, is_shaped, is_image, image_medium, pages_if, has_page, mark_at, stored_if, cylinders_if, Found, Opened}
+use Rattle.image.proofs.Tables.{image_shaped, mark_small, count_is, unread, found_same, size_found, length_pages}
 use Rattle.image.proofs.Changes.{Fits}
 use Rattle.image.proofs.Rules.{Kind, rule, let_through, went}
 use Rattle.image_copy.specs.Drives.{has_pages, drive_medium, is_inside, takes, goes_through, stays_on, Exactly}
@@ -23,6 +23,32 @@ shut_has opened ws h = and_left opened (is_shaped ws) h
 pub has_shape : (opened : Bool) (ws : List ℕ) → has_pages opened ws ≡ true → is_shaped ws ≡ true
 unfolding has_pages
 has_shape opened ws h = (and_parts opened (is_shaped ws) h).1
+
+-- What a read of a drive finds: nothing where it opened no image, else what the words hold.
+pub shut_label : (opened : Bool) (ws : List ℕ) (p : ℕ) → opened ≡ false → None ≡ label_at (pages_if (has_pages opened ws) ws) p
+shut_label opened ws p h = sym (ap (λ x. x.label) (unread (has_pages opened ws) ws p (shut_has opened ws h)))
+
+pub shut_data : (opened : Bool) (ws : List ℕ) (p : ℕ) → opened ≡ false → None ≡ data_at (pages_if (has_pages opened ws) ws) p
+shut_data opened ws p h = sym (ap (λ x. x.words) (unread (has_pages opened ws) ws p (shut_has opened ws h)))
+
+pub open_pages : (opened : Bool) (ws : List ℕ) → opened ≡ true → pages_if (is_shaped ws) ws ≡ pages_if (has_pages opened ws) ws
+open_pages opened ws h = ap (λ b. pages_if b ws) (sym (has_is opened ws h))
+
+pub ruleset reads = (shut_label, shut_data, open_pages)
+
+-- The cylinders that are found there.
+pub open_found : (opened : Bool) (ws : List ℕ) (o : Option Cylinders) → opened ≡ true → Found (is_shaped ws) ws o → Found (has_pages opened ws) ws o
+open_found opened ws o h f = found_same (is_shaped ws) (has_pages opened ws) ws ws o (has_is opened ws h) refl f
+
+pub ruleset sizes = (open_found, shut_has)
+
+pub told_size : (opened : Bool) (ws : List ℕ) (o : Option Cylinders) (r : Cylinders) → Found (has_pages opened ws) ws o → MatchOption o (r.count ≡ 1) (λ c. r ≡ c) → r.count ≡ cylinders_if (has_pages opened ws) ws
+told_size opened ws o r f e = size_found (has_pages opened ws) ws o r f e
+
+pub told_pages : (opened : Bool) (ws : List ℕ) → length (pages_if (has_pages opened ws) ws) ≡ 24 * cylinders_if (has_pages opened ws) ws
+told_pages opened ws = length_pages (has_pages opened ws) ws (has_shape opened ws)
+
+pub ruleset told = (told_size, told_pages)
 
 -- Words that were an image have the pages of that image.
 pub opened_has : (opened : Bool) (ws : List ℕ) → (opened && is_image ws) ≡ true → has_pages opened ws ≡ is_image ws

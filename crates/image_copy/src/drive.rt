@@ -1,4 +1,4 @@
-ghost use Rattle.std.specs.Prelude.{◌≡◌, true, ◌&&◌, if◌then◌else◌, Ok, Err};
+ghost use Rattle.std.specs.Prelude.{◌≡◌, true, false, MatchOption, ◌&&◌, if◌then◌else◌, Ok, Err};
 ghost use Rattle.disk.specs.Refusals.{hardware};
 ghost use Rattle.disk.specs.Media.{label_at, data_at, label_write, data_write, Written, spun_up};
 ghost use Rattle.image.specs.Images.{is_image, pages_in, image_medium, Found};
@@ -45,29 +45,33 @@ impl<'a> CopyDrive<'a> {
         words
     }
 
+    // The words, where they were an image when the drive was made.
+    fn opened_words(&self) -> Option<&[u16]>
+        ensures { MatchOption result (self.now.opened ≡ false) (λ ws. (self.now.opened ≡ true) × (ws.now ≡ self.now.words.now)) }
+    {
+        if self.opened { Some(self.words) } else { None }
+    }
+
     // The cylinders of the pages in the words, if there are any.
+    #[tactic(auto, using(crate::proofs::Having::sizes))]
     fn measured(&self) -> Option<Cylinders>
         ensures { Found (has_pages self.now.opened self.now.words.now) self.now.words.now result }
     {
-        if self.opened { shape(self.words) } else { None }
+        shape(self.opened_words()?)
     }
 
+    #[tactic(auto, using(crate::proofs::Having::reads))]
     fn label(&self, page: u16) -> Option<Label>
         ensures { result ≡ label_at (drive_medium self.now.opened self.now.on self.now.words.now).pages page }
     {
-        if !self.opened {
-            return None;
-        }
-        stored_label(self.words, page)
+        stored_label(self.opened_words()?, page)
     }
 
+    #[tactic(auto, using(crate::proofs::Having::reads))]
     fn data_words(&self, page: u16) -> Option<[u16; 256]>
         ensures { result ≡ data_at (drive_medium self.now.opened self.now.on self.now.words.now).pages page }
     {
-        if !self.opened {
-            return None;
-        }
-        stored_data(self.words, page)
+        stored_data(self.opened_words()?, page)
     }
 
     // Whether there is that page, with a mark that an image has.
@@ -86,11 +90,11 @@ impl<'a> CopyDrive<'a> {
         ensures words { self.new.words.now ≡ self.old.words.now }
         ensures opened { self.new.opened ≡ self.old.opened }
     {
-        if self.on && at.page < self.cylinders().pages() {
-            self.on = self.takes(at.page);
-            if self.on {
-                return Ok(());
-            }
+        if self.on && self.takes(at.page) {
+            return Ok(());
+        }
+        if at.page < self.cylinders().pages() {
+            self.on = false;
         }
         Err(Refusal::hardware(at))
     }
@@ -99,6 +103,7 @@ impl<'a> CopyDrive<'a> {
 impl<'a> Reader for CopyDrive<'a> {
     ghost medium = { λ d. drive_medium d.opened d.on d.words.now };
 
+    #[tactic(auto, using(crate::proofs::Having::told))]
     fn cylinders(&self) -> Cylinders {
         cylinders_or_one(self.measured())
     }

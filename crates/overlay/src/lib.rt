@@ -1,7 +1,7 @@
 // A drive laid over a reader: what is written stays in the drive, and never goes below.
 #![tactic(auto)]
 
-ghost use Rattle.std.specs.Prelude.{◌≡◌, ◌≤◌, true, false, ◌&&◌, [], length, IfErr, nat_lt};
+ghost use Rattle.std.specs.Prelude.{◌≡◌, ◌≤◌, true, false, ◌&&◌, [], length, Ok, IfErr, MatchResult, IsErrAnd, nat_lt};
 ghost use Rattle.std.specs.Result.{is_ok};
 ghost use Rattle.disk.specs.Refusals.{hardware};
 ghost use Rattle.disk.specs.Media.{label_at, data_at, label_write, data_write, Written, spun_up};
@@ -10,6 +10,7 @@ ghost use Rattle.overlay.specs.Overlays.{medium_over, pages_held, Exactly};
 mod slot;
 mod table;
 
+use arrayvec::CapacityError;
 use disk::{Cylinders, Drive, Label, PageAddress, Reader, Refusal};
 use table::SlotTable;
 
@@ -68,6 +69,17 @@ impl<R: Reader> Overlay<R> {
             Err(Refusal::hardware(at))
         }
     }
+
+    // Answers a write to a page that is there. One that the table could not keep turns the drive off.
+    fn answer(&mut self, at: PageAddress, kept: Result<(), CapacityError>) -> Result<(), Refusal>
+        ensures on { self.new.on ≡ is_ok kept }
+        ensures table { self.new.table ≡ self.old.table }
+        ensures below { self.new.below ≡ self.old.below }
+        ensures result { MatchResult kept (λ x. result ≡ Ok x) (λ d. IsErrAnd result (λ e. e ≡ hardware at.page)) }
+    {
+        self.on = kept.is_ok();
+        kept.map_err(|_| Refusal::hardware(at))
+    }
 }
 
 impl<R: Reader> Reader for Overlay<R> {
@@ -113,7 +125,6 @@ impl<R: Reader> Reader for Overlay<R> {
     }
 }
 
-// A write that is accepted and cannot be kept turns the drive off.
 impl<R: Reader> Drive for Overlay<R> {
     fn write_label(&mut self, at: PageAddress, label: Label) -> Result<(), Refusal>
         ensures rule { Written (label_write at.page label) (medium_over R.Reader.medium self.old) result (medium_over R.Reader.medium self.new) }
@@ -122,8 +133,7 @@ impl<R: Reader> Drive for Overlay<R> {
     {
         self.accepts(at)?;
         let kept = self.table.put_label(at, label);
-        self.on = kept.is_ok();
-        kept.map_err(|_| Refusal::hardware(at))
+        self.answer(at, kept)
     }
 
     fn write_data(&mut self, at: PageAddress, words: &[u16; 256]) -> Result<(), Refusal>
@@ -133,8 +143,7 @@ impl<R: Reader> Drive for Overlay<R> {
     {
         self.accepts(at)?;
         let kept = self.table.put_data(at, words);
-        self.on = kept.is_ok();
-        kept.map_err(|_| Refusal::hardware(at))
+        self.answer(at, kept)
     }
 
     fn spin_up(&mut self)

@@ -13,5 +13,5 @@ returns-in_err-accepts g c =
 
 pub returns : goal.returns
 returns g c =
-    let o = by_table (data_write c.args.at.page c.args.words.now) (g.R.Reader.medium c.args.self.now.below) (held c.args.self.now.table) (held c.put_data-kept.new.self) c.args.self.now.on _ c.put_data-kept.result c.map_err.result c.is_ok-self.result c.in_ok-accepts.ensures.variant c.put_data-kept.ensures c.is_ok-self.ensures.value (search rules) in
-    record { rule = o.rule; exactly = o.exactly; below = refl {a = c.args.self.now.below} }
+    let o = by_table (data_write c.args.at.page c.args.words.now) (g.R.Reader.medium c.args.self.now.below) (held c.args.self.now.table) (held c.put_data-kept.new.self) c.args.self.now.on _ c.put_data-kept.result c.answer.result c.answer.new.self.on c.in_ok-accepts.ensures.variant c.put_data-kept.ensures c.answer.ensures.on c.answer.ensures.result in
+    rw (c.answer.ensures.table, c.answer.ensures.below) record { rule = o.rule; exactly = o.exactly; below = refl }
