@@ -1,7 +1,7 @@
 ghost use Rattle.std.specs.Prelude.{◌≡◌, true, false, MatchOption, ◌&&◌, if◌then◌else◌, Ok, Err};
 ghost use Rattle.disk.specs.Refusals.{hardware};
-ghost use Rattle.disk.specs.Media.{label_at, data_at, label_write, data_write, Written, spun_up};
-ghost use Rattle.image.specs.Images.{is_image, pages_in, image_medium, Found};
+ghost use Rattle.disk.specs.Media.{label_at, data_at, a_label, a_data, label_write, data_write, Written, spun_up};
+ghost use Rattle.image.specs.Images.{is_image, pages_in, image_medium, stored_if, Found};
 ghost use Rattle.image_copy.specs.Drives.{has_pages, drive_medium, is_inside, takes, goes_through, stays_on, Exactly};
 
 use disk::{Cylinders, Drive, Label, PageAddress, Reader, Refusal};
@@ -81,6 +81,24 @@ impl<'a> CopyDrive<'a> {
         self.opened && stored_mark(self.words, page).is_some_and(|mark| mark <= 3)
     }
 
+    // Puts a label on a page of the words, or data, and leaves the drive as it is.
+
+    fn put_label(&mut self, page: u16, label: Label)
+        ensures words { self.new.words.now ≡ stored_if self.old.words.now page (a_label label) }
+        ensures opened { self.new.opened ≡ self.old.opened }
+        ensures on { self.new.on ≡ self.old.on }
+    {
+        store_label(self.words, page, label);
+    }
+
+    fn put_data(&mut self, page: u16, words: &[u16; 256])
+        ensures words { self.new.words.now ≡ stored_if self.old.words.now page (a_data words.now) }
+        ensures opened { self.new.opened ≡ self.old.opened }
+        ensures on { self.new.on ≡ self.old.on }
+    {
+        store_data(self.words, page, words);
+    }
+
     // Lets a write to the page go through or refuses it. A page that takes no write turns the drive off.
     // This and the writes are as in `ImageDrive`, where whether the words are an image decides, and here
     // the page's own mark.
@@ -136,7 +154,7 @@ impl<'a> Drive for CopyDrive<'a> {
         ensures opened { self.new.opened ≡ self.old.opened }
     {
         self.admit(at)?;
-        store_label(self.words, at.page, label);
+        self.put_label(at.page, label);
         Ok(())
     }
 
@@ -146,7 +164,7 @@ impl<'a> Drive for CopyDrive<'a> {
         ensures opened { self.new.opened ≡ self.old.opened }
     {
         self.admit(at)?;
-        store_data(self.words, at.page, words);
+        self.put_data(at.page, words);
         Ok(())
     }
 

@@ -1,4 +1,4 @@
-use Rattle.std.proofs.Common.{rules}
+use Rattle.std.proofs.Common.{◌∙◌, rules}
 use Rattle.disk.specs.Media.{label_write}
 use Rattle.image_copy.proofs.Having.{drive_rule, landed}
 use Rattle.image_copy.proofs.drive.CopyDriveDrive.write_label.Goals as goal
@@ -13,7 +13,9 @@ pub returns : goal.returns
 returns c =
     let d = c.args.self.now in
     let e = c.admit.new.self in
+    let s = c.put_label.new.self in
     let a = c.admit.ensures in
+    let p = c.put_label.ensures in
     let w = label_write c.args.at.page c.args.label in
-    let x = landed w d.opened d.on d.words.now c.admit.result _ e.on e.words.now c.store_label.new.words a.answer c.in_ok-admit.was a.words a.on c.store_label.ensures in
-    record { rule = drive_rule w d.opened e.opened d.on d.words.now _ e.on c.store_label.new.words tt a.opened x; exactly = x; opened = a.opened }
+    let x = landed w d.opened d.on d.words.now c.admit.result _ s.on e.words.now s.words.now a.answer c.in_ok-admit.was a.words (p.on ∙ a.on) p.words in
+    record { rule = drive_rule w d.opened s.opened d.on d.words.now _ s.on s.words.now tt (p.opened ∙ a.opened) x; exactly = x; opened = p.opened ∙ a.opened }
